@@ -1,0 +1,13 @@
+pub mod Checks
+pub mod Numbers
+pub mod Frames
+pub mod Matching
+pub mod Logs
+pub mod Fitting
+pub mod Egress
+pub mod Routes
+pub mod Owners
+pub mod Ingress
+pub mod FlowHash
+pub mod Programmes
+pub mod Outer

@@ -1,0 +1,17 @@
+//! Captures: the classic pcap file as tcpdump writes it, read and written.
+//!
+//! [`read_capture`] takes exactly the files that have a capture header of version 2 and link type 1
+//! (Ethernet) in one of the four spellings, and then whole records within the limits; of any other
+//! file it tells the first check that fails, from left to right, and where. [`write_capture`] writes
+//! the little-endian spelling of a capture under any link type.
+//!
+//! It stands on `byteorder` and on the library alone.
+#![tactic(auto)]
+
+mod bytes;
+mod capture;
+mod fault;
+
+pub use bytes::Bytes;
+pub use capture::{Capture, Frames, Taken};
+pub use fault::{CaptureFault, NoMemory};

@@ -15,3 +15,15 @@ mod fault;
 pub use bytes::Bytes;
 pub use capture::{Capture, Frames, Taken};
 pub use fault::{CaptureFault, NoMemory};
+
+/// The bytes of a capture's header.
+pub const HEADER_LEN: usize = 24;
+
+/// The bytes of a record's header, before the captured bytes.
+pub const RECORD_LEN: usize = 16;
+
+/// The most frames that a capture may have.
+pub const MAX_FRAMES: usize = 100_000;
+
+/// The most bytes that a frame may have.
+pub const MAX_FRAME_LEN: usize = 262_144;

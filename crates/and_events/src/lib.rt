@@ -1,0 +1,13 @@
+//! What the system is: its plans, its states, which events are legal in them, and what a run says of each packet.
+#![tactic(auto)]
+
+mod event;
+mod items;
+mod plan;
+
+pub use event::{
+    Actor, Arrival, Carried, Departure, End, Endpoint, Event, Held, Line, Node, Passage, Queue,
+    Return,
+};
+pub use items::Items;
+pub use plan::{Item, ItemFault, Packet, Plan, Scenario, Settings, SkipReason, Step, What};

@@ -1,0 +1,4 @@
+//! Scenarios: the JSON text of a topology and a script, read exactly, and the plan that a script gives with a capture.
+#![tactic(auto)]
+
+pub use and_events::{Item, Scenario};

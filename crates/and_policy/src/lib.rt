@@ -9,6 +9,7 @@ mod decision;
 mod entry;
 mod memory;
 mod packet;
+mod port;
 
 pub use decision::{
     Decision, Dest, Exit, GateDecision, Landing, Leaving, Located, Name, Outcome, Routed, Routing,
@@ -17,3 +18,4 @@ pub use decision::{
 pub use entry::{Entry, EntryFault, FlowKey, Op, Order, Prefix, Route, Rule, Side, Target};
 pub use memory::NoMemory;
 pub use packet::{Fields, Skip, Tuple};
+pub use port::{Port, UsageKey};

@@ -58,11 +58,14 @@ pub record Spells (text : List ℕ) (capture : Capture) : Type 0 where
   pub parts : text ≡ header order capture.nanos unread 1 ++ flat_map (record_of order) capture.frames
   pub limits : IsWithinLimits capture
 
--- the one file that is written for a capture under a link type: low byte first, version 2.4, no time zone and
--- accuracy, and the largest frame as snapshot length
+-- the header that is written: low byte first, version 2.4, no time zone and accuracy, and the largest frame as
+-- snapshot length
+abbrev pub written_header : Bool → ℕ → List ℕ
+written_header nanos link = header little nanos (little_bytes 2 4 ++ (little_bytes 4 0 ++ (little_bytes 4 0 ++ little_bytes 4 MAX_FRAME_LEN))) link
+
+-- the one file that is written for a capture under a link type
 abbrev pub written : ℕ → Capture → List ℕ
-written link capture =
-    header little capture.nanos (little_bytes 2 4 ++ (little_bytes 4 0 ++ (little_bytes 4 0 ++ little_bytes 4 MAX_FRAME_LEN))) link ++ flat_map (record_of little) capture.frames
+written link capture = written_header capture.nanos link ++ flat_map (record_of little) capture.frames
 
 -- whether a text begins as a file with the low byte first and microseconds does
 abbrev pub is_little_micros : List ℕ → Bool

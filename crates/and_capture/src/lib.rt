@@ -11,10 +11,16 @@
 mod bytes;
 mod capture;
 mod fault;
+mod reading;
+#[cfg(test)]
+mod tests;
+mod writing;
 
 pub use bytes::Bytes;
 pub use capture::{Capture, Frames, Taken};
 pub use fault::{CaptureFault, NoMemory};
+pub use reading::read_capture;
+pub use writing::write_capture;
 
 /// The bytes of a capture's header.
 pub const HEADER_LEN: usize = 24;
@@ -27,3 +33,15 @@ pub const MAX_FRAMES: usize = 100_000;
 
 /// The most bytes that a frame may have.
 pub const MAX_FRAME_LEN: usize = 262_144;
+
+/// The magic number of a file with microseconds.
+const MICROS: u32 = 0xa1b2_c3d4;
+
+/// The magic number of a file with nanoseconds.
+const NANOS: u32 = 0xa1b2_3c4d;
+
+/// The major version.
+const MAJOR: u16 = 2;
+
+/// The link type of Ethernet.
+const ETHERNET: u32 = 1;

@@ -1,0 +1,4 @@
+pub mod Loop
+pub mod Numbers
+pub mod Records
+pub mod Files

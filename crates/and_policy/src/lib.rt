@@ -7,6 +7,7 @@
 
 mod decision;
 mod entry;
+mod index;
 mod memory;
 mod packet;
 

@@ -8,6 +8,7 @@
 mod decision;
 mod entry;
 mod index;
+mod log;
 mod memory;
 mod packet;
 
@@ -16,5 +17,6 @@ pub use decision::{
     Verdict, Way,
 };
 pub use entry::{Entry, EntryFault, FlowKey, Op, Order, Prefix, Route, Rule, Side, Target};
+pub use log::Log;
 pub use memory::NoMemory;
 pub use packet::{Fields, Skip, Tuple};

@@ -7,6 +7,8 @@
 
 mod decision;
 mod entry;
+mod index;
+mod log;
 mod memory;
 mod packet;
 mod port;
@@ -16,6 +18,7 @@ pub use decision::{
     Verdict, Way,
 };
 pub use entry::{Entry, EntryFault, FlowKey, Op, Order, Prefix, Route, Rule, Side, Target};
+pub use log::Log;
 pub use memory::NoMemory;
 pub use packet::{Fields, Skip, Tuple};
 pub use port::{Port, UsageKey};

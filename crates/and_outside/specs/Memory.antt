@@ -1,11 +1,9 @@
 -- Files and a sink that are kept in memory, as contracts see them.
-use Rattle.std.specs.Prelude.{ℕ, ◌+◌, ◌-◌, ◌<◌, ◌≤◌, ◌==◌, ◌||◌, nat_lt, List, [], ◌∷◌, ◌++◌, length, map, Option, Some, None, is_none, Bool, true, false, if◌then◌else◌}
+use Rattle.std.specs.Prelude.{ℕ, ◌+◌, ◌-◌, ◌==◌, ◌||◌, nat_lt, List, [], ◌∷◌, ◌++◌, length, Option, Some, None, is_none, Bool, true, false, if◌then◌else◌}
 use Rattle.std.specs.List.{list_any}
 use Rattle.std.specs.Option.{option_or}
 use Rattle.std.specs.Str.{bytes_eq}
 use Rattle.and_outside.specs.Causes.{raised}
-use Rattle.and_outside.specs.declared.answer.ReadAnswer.{ReadAnswer}
-use Rattle.and_outside.specs.declared.answer.ReadAnswer.TheVariants.{Failed, TooLong, NoMemory}
 
 -- a name, and what it was given to hold
 pub record Kept : Type 0 where
@@ -45,10 +43,10 @@ is_empty (x ∷ xs) = false
 -- one more content, which uses a place and the bytes of its name and content
 abbrev pub with_file : Shelf → List ℕ → List ℕ → Shelf
 with_file s name bytes = record s {
-    kept = s.kept ++ record { name = name; bytes = bytes } ∷ [];
-    places = s.places - 1;
-    room = s.room - (length name + length bytes);
-  }
+  kept = s.kept ++ record { name = name; bytes = bytes } ∷ [];
+  places = s.places - 1;
+  room = s.room - (length name + length bytes);
+}
 
 -- the next call is counted
 abbrev pub counted : Shelf → Shelf

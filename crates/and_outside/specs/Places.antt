@@ -1,5 +1,5 @@
 -- Where the files of a `MemoryFiles` stand among its bytes.
-use Rattle.std.specs.Prelude.{ℕ, ◌-◌, ◌≤◌, List, map, take, drop, length}
+use Rattle.std.specs.Prelude.{ℕ, ◌-◌, ◌≤◌, List, map, take, drop}
 use Rattle.and_outside.specs.Memory.{Kept}
 use Rattle.and_outside.specs.declared.place.Place.{Place}
 

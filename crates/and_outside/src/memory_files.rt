@@ -38,9 +38,14 @@ impl Model for MemoryFiles {
     ghost Value = { Shelf };
 
     ghost view = { λ f. record {
-        kept = kept_in f.bytes.items f.places.items; failing = f.failing.items; next = f.next;
-        places = f.places_left; room = f.room;
-        read_faults = f.read_faults; write_faults = f.write_faults; taken = f.taken;
+      kept = kept_in f.bytes.items f.places.items;
+      failing = f.failing.items;
+      next = f.next;
+      places = f.places_left;
+      room = f.room;
+      read_faults = f.read_faults;
+      write_faults = f.write_faults;
+      taken = f.taken;
     } };
 
     // The memory for all that is still to come is there, and every place is among the bytes.
@@ -52,7 +57,12 @@ impl Model for MemoryFiles {
 impl MemoryFiles {
     /// Holds nothing yet. It has so many places for files, and room for so many bytes of names and
     /// contents, and takes all memory for them here. The calls with these numbers fail.
-    pub fn make(alloc: Global, files: u32, room: u64, failing: &[u32]) -> Result<MemoryFiles, NoMemory>
+    pub fn make(
+        alloc: Global,
+        files: u32,
+        room: u64,
+        failing: &[u32],
+    ) -> Result<MemoryFiles, NoMemory>
         ensures { IfOk result (λ f. f ≡ empty_shelf files room failing.now) }
     {
         let Ok(bytes) = Vec::with_capacity(alloc, room as usize) else {

@@ -17,6 +17,8 @@ mod place;
 mod real_files;
 mod real_sink;
 mod sink;
+#[cfg(test)]
+mod tests;
 
 pub use answer::{Failed, NoMemory, ReadAnswer};
 pub use files::Files;

@@ -2,3 +2,5 @@
 #![tactic(auto)]
 
 pub use and_events::{Item, Scenario};
+
+mod words;

@@ -3,4 +3,6 @@
 
 pub use and_events::{Item, Scenario};
 
+mod forms;
+mod tables;
 mod words;

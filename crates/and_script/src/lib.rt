@@ -3,6 +3,8 @@
 
 pub use and_events::{Item, Scenario};
 
+mod fields;
 mod forms;
+mod refusal;
 mod tables;
 mod words;

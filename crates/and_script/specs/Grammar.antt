@@ -157,9 +157,19 @@ item_with vm commands.AddRule (givens.Number net ∷ givens.Number number ∷ gi
     ∷ givens.OfProtocol protocol ∷ givens.Within source ∷ givens.Within destination ∷ givens.Between source_low source_high
     ∷ givens.Between destination_low destination_high ∷ givens.Allows sealed ∷ []) =
     items.Entry (entries.AddRule net (record {
-      number = number; priority = priority; side = side; allow = allow; sealed = sealed; protocol = protocol;
-      source = source; destination = destination; source_low = source_low; source_high = source_high;
-      destination_low = destination_low; destination_high = destination_high }))
+      number = number;
+      priority = priority;
+      side = side;
+      allow = allow;
+      sealed = sealed;
+      protocol = protocol;
+      source = source;
+      destination = destination;
+      source_low = source_low;
+      source_high = source_high;
+      destination_low = destination_low;
+      destination_high = destination_high;
+    }))
 item_with vm commands.DelRule (givens.Number net ∷ givens.Number number ∷ []) = items.Entry (entries.DelRule net number)
 item_with vm commands.AddRoute (givens.Number net ∷ givens.Number number ∷ givens.Within prefix ∷ givens.Going toward ∷ values) =
     items.Entry (entries.AddRoute net (record { number = number; prefix = prefix; target = target_by toward values }))
@@ -219,8 +229,16 @@ abbrev pub settings_by : List Given → Settings
 settings_by (givens.Number hosts ∷ givens.Number gateways ∷ givens.Number workers ∷ givens.Number hop_limit ∷ givens.Number out_queue
     ∷ givens.Number wire_queue ∷ givens.Number seal_queue ∷ givens.Number threshold ∷ givens.Number life ∷ values) =
     record {
-      hosts = hosts; gateways = gateways; workers = workers; hop_limit = hop_limit; out_queue = out_queue; wire_queue = wire_queue;
-      seal_queue = seal_queue; threshold = threshold; life = life }
+      hosts = hosts;
+      gateways = gateways;
+      workers = workers;
+      hop_limit = hop_limit;
+      out_queue = out_queue;
+      wire_queue = wire_queue;
+      seal_queue = seal_queue;
+      threshold = threshold;
+      life = life;
+    }
 settings_by _ =
     record { hosts = 0; gateways = 0; workers = 0; hop_limit = 0; out_queue = 0; wire_queue = 0; seal_queue = 0; threshold = 0; life = 0 }
 

@@ -36,7 +36,10 @@ fn read_rows(rows: &[Row], object: &Value, values: &mut Vec<Given>) -> Result<()
         [row, rest @ ..] => {
             let given = match read_field(row, object) {
                 Ok(given) => given,
-                Err(cause) => return Err(Refusal::At { cause, name: row.name }),
+                Err(cause) => return Err(Refusal::At {
+                    cause,
+                    name: row.name,
+                }),
             };
             match values.push(given) {
                 Ok(()) => read_rows(rest, object, values),
@@ -80,7 +83,12 @@ fn first_unknown<'a>(item: bool, rows: &[Row], object: &'a Value) -> Option<&'a 
 }
 
 /// What the fields of an object give by the rows of a table; a field that no row has comes first.
-pub(crate) fn read_members<'a>(alloc: Global, item: bool, rows: &[Row], object: &'a Value) -> Result<Vec<Given>, Refusal<'a>>
+pub(crate) fn read_members<'a>(
+    alloc: Global,
+    item: bool,
+    rows: &[Row],
+    object: &'a Value,
+) -> Result<Vec<Given>, Refusal<'a>>
     ensures { (fields : Members) → as_object (view object.now) ≡ Some fields
         → Says (λ v. v.items) result (members_given (more_names item) (map row_view rows.now) (view object.now) fields) }
 {

@@ -77,7 +77,11 @@ fn protocol_given(text: &str) -> Option<Given>
 fn name_given(text: &str) -> Option<Given>
     ensures { result ≡ forms.name_given text.now }
 {
-    if is_name(text.as_bytes()) { Some(Given::Named) } else { None }
+    if is_name(text.as_bytes()) {
+        Some(Given::Named)
+    } else {
+        None
+    }
 }
 
 fn mac_given(text: &str) -> Option<Given>
@@ -172,7 +176,11 @@ fn read_priority(value: &Value) -> Result<Given, Cause>
     ensures { result ≡ forms.read_form Form.Priority (view value.now) }
 {
     match value.as_u64() {
-        Some(n) => if n <= 65535 { Ok(Given::Priority(n as u16)) } else { Err(Cause::Range) },
+        Some(n) => if n <= 65535 {
+            Ok(Given::Priority(n as u16))
+        } else {
+            Err(Cause::Range)
+        },
         None => Err(Cause::Field),
     }
 }
@@ -181,7 +189,11 @@ fn read_protocol_number(value: &Value) -> Result<Given, Cause>
     ensures { result ≡ forms.in_range 0 255 forms.number_of_protocol (forms.whole (view value.now)) }
 {
     match value.as_u64() {
-        Some(n) => if n <= 255 { Ok(Given::OfProtocol(Some(n as u8))) } else { Err(Cause::Range) },
+        Some(n) => if n <= 255 {
+            Ok(Given::OfProtocol(Some(n as u8)))
+        } else {
+            Err(Cause::Range)
+        },
         None => Err(Cause::Field),
     }
 }

@@ -5,6 +5,7 @@ pub use and_events::{Item, Scenario};
 
 mod fields;
 mod forms;
+mod items;
 mod refusal;
 mod tables;
 mod words;

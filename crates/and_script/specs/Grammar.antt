@@ -1,6 +1,6 @@
 -- Which bytes are a scenario, and which one; otherwise the first check that fails, and where.
-use Rattle.std.specs.Prelude.{◌≡◌, ℕ, suc, ◌+◌, ◌==◌, ◌&&◌, ◌||◌, not, Bool, true, false, nat_lt, nat_le, if◌then◌else◌, List, [], ◌∷◌, ◌++◌, length, map, Option, Some, None, unwrap_or, Result, Ok, Err, codes, bytes_eq, position}
-use Rattle.std.specs.List.{list_any}
+use Rattle.std.specs.Prelude.{◌≡◌, ℕ, suc, ◌+◌, ◌==◌, ◌&&◌, ◌||◌, not, Bool, true, false, nat_lt, nat_le, if◌then◌else◌, List, [], ◌∷◌, ◌++◌, length, map, Option, Some, None, Result, Ok, Err, codes, bytes_eq}
+use Rattle.std.specs.List.{list_any, position_or_len}
 use Rattle.std.specs.Str.{IsUtf8}
 use Rattle.std.specs.Fmt.{decimal}
 use Rattle.and_policy.specs.declared.entry.Side.{Side}
@@ -189,12 +189,12 @@ item_with vm _ _ = items.Wait
 -- VM names in the order in which they first stand in the script
 abbrev pub with_name : List (List ℕ) → Option (List ℕ) → List (List ℕ)
 with_name names None = names
-with_name names (Some name) = if list_any (λ n. bytes_eq n name) names then names else names ++ name ∷ []
+with_name names (Some name) = if list_any (bytes_eq name) names then names else names ++ name ∷ []
 
--- the number of a VM: the place of its name
+-- the number of a VM: the place of its name, or the next one where the name is new
 abbrev pub number_of : List (List ℕ) → Option (List ℕ) → ℕ
 number_of names None = 0
-number_of names (Some name) = unwrap_or (position (λ n. bytes_eq n name) names) 0
+number_of names (Some name) = position_or_len (bytes_eq name) names
 
 abbrev pub names_from : List (List ℕ) → List Written → List (List ℕ)
 names_from names [] = names
@@ -203,7 +203,7 @@ names_from names (w ∷ ws) = names_from (with_name names w.name) ws
 abbrev pub items_from : List (List ℕ) → List Written → List Item
 items_from names [] = []
 items_from names (w ∷ ws) =
-    item_with (number_of (with_name names w.name) w.name) w.command w.values ∷ items_from (with_name names w.name) ws
+    item_with (number_of names w.name) w.command w.values ∷ items_from (with_name names w.name) ws
 
 -- ---- the whole
 

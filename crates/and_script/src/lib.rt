@@ -6,6 +6,7 @@ pub use and_events::{Item, Scenario};
 mod fields;
 mod forms;
 mod items;
+mod names;
 mod refusal;
 mod tables;
 mod words;

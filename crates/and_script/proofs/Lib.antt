@@ -1,2 +1,3 @@
 pub mod PortLists
 pub mod NameLists
+pub mod ItemLists

@@ -35,3 +35,16 @@ unknown_in known (Some fields) = grammar.first_unknown known fields
 
 abbrev pub known_names : Bool → List Row → List (List ℕ)
 known_names item rows = more_names item ++ grammar.names_of_rows rows
+
+-- ---- the items of a script
+
+-- so many items were read, which were written so; the rest is still to be read
+abbrev pub and_rest : List grammar.Written → Result (List grammar.Written) grammar.Fault → Result (List grammar.Written) grammar.Fault
+and_rest done (Ok rest) = Ok (done ++ rest)
+and_rest done (Err fault) = Err fault
+
+-- a refusal in the item of this number
+abbrev pub RefusesAt : {Y : Type 0} → ℕ → Refusal → Result Y grammar.Fault → Type 0
+RefusesAt n (At cause name) said = said ≡ Err (grammar.Refused cause (grammar.InItem n (grammar.Of name.now)))
+RefusesAt n (Whole cause) said = said ≡ Err (grammar.Refused cause (grammar.InItem n grammar.Itself))
+RefusesAt n NoMemory said = Unit {0}

@@ -2,11 +2,14 @@
 #![tactic(auto)]
 
 pub use and_events::{Item, Scenario};
+pub use fault::ScenarioFault;
 
+mod fault;
 mod fields;
 mod forms;
 mod items;
 mod names;
 mod refusal;
+mod script;
 mod tables;
 mod words;

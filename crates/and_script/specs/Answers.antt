@@ -5,6 +5,10 @@ use Rattle.serde_json.specs.Find.{as_object}
 use Rattle.and_script.specs.declared.refusal.Refusal.{Refusal}
 use Rattle.and_script.specs.declared.refusal.Refusal.TheVariants.{At, Whole, NoMemory}
 use Rattle.and_script.specs.declared.tables.Given.{Given}
+use Rattle.and_script.specs.declared.tables.Cause.{Cause}
+use Rattle.and_script.specs.declared.tables.Cause.TheVariants.{Field, Unknown, Range, Limit}
+use Rattle.and_script.specs.declared.fault.ScenarioFault.{ScenarioFault}
+use Rattle.and_script.specs.declared.fault.ScenarioFault.TheVariants as faults
 use Rattle.and_script.specs.Tables.{Row}
 use Rattle.and_script.specs.Grammar as grammar
 
@@ -48,3 +52,43 @@ abbrev pub RefusesAt : {Y : Type 0} → ℕ → Refusal → Result Y grammar.Fau
 RefusesAt n (At cause name) said = said ≡ Err (grammar.Refused cause (grammar.InItem n (grammar.Of name.now)))
 RefusesAt n (Whole cause) said = said ≡ Err (grammar.Refused cause (grammar.InItem n grammar.Itself))
 RefusesAt n NoMemory said = Unit {0}
+
+-- ---- the whole
+
+-- the fault has this cause, and the path of this place
+abbrev pub IsFault : ScenarioFault → Cause → grammar.Place → Type 0
+IsFault (faults.Field path) Field place = path ≡ grammar.path_of place
+IsFault (faults.Unknown path) Unknown place = path ≡ grammar.path_of place
+IsFault (faults.Range path) Range place = path ≡ grammar.path_of place
+IsFault (faults.Limit path) Limit place = path ≡ grammar.path_of place
+IsFault _ _ place = ⊥
+
+abbrev pub IsFaultOr : ScenarioFault → Cause → grammar.Place → Type 0
+IsFaultOr faults.NoMemory cause place = Unit {0}
+IsFaultOr fault cause place = IsFault fault cause place
+
+abbrev pub spot_of : Option (List ℕ) → grammar.Spot
+spot_of None = grammar.Itself
+spot_of (Some name) = grammar.Of name
+
+-- the fault of a refusal at the top, and in the item of this number
+abbrev pub TopFault : ScenarioFault → Refusal → Type 0
+TopFault fault (At cause name) = IsFaultOr fault cause (grammar.Top (grammar.Of name.now))
+TopFault fault (Whole cause) = IsFaultOr fault cause (grammar.Top grammar.Itself)
+TopFault fault NoMemory = fault ≡ faults.NoMemory
+
+abbrev pub ItemFault : ScenarioFault → ℕ → Refusal → Type 0
+ItemFault fault n (At cause name) = IsFaultOr fault cause (grammar.InItem n (grammar.Of name.now))
+ItemFault fault n (Whole cause) = IsFaultOr fault cause (grammar.InItem n grammar.Itself)
+ItemFault fault n NoMemory = fault ≡ faults.NoMemory
+
+-- the fault is what the definition says of the value, unless memory ran out
+abbrev pub Tells : {Y : Type 0} → ScenarioFault → Result Y grammar.Fault → Type 0
+Tells faults.NoMemory said = Unit {0}
+Tells fault said = (cause : Cause) × (place : grammar.Place) × IsFault fault cause place × (said ≡ Err (grammar.Refused cause place))
+
+-- the bytes are no JSON text; or they are that of a value of which the definition says this fault
+abbrev pub TellsOf : List ℕ → ScenarioFault → Type 0
+TellsOf bytes faults.NoMemory = Unit {0}
+TellsOf bytes faults.NotJson = (d : Data) → grammar.IsJson bytes d → ⊥
+TellsOf bytes fault = (d : Data) × grammar.IsJson bytes d × Tells fault (grammar.scenario_of d)

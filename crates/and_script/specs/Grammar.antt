@@ -260,11 +260,9 @@ IsJson bytes d = IsUtf8 bytes × (read bytes ≡ Some d)
 
 -- ---- paths
 
-abbrev pub spot_path : Spot → List ℕ
-spot_path Itself = []
-spot_path (Of name) = 47 ∷ name
-
--- `/` and a field name, or `/script/`, the item's number, and for a field `/` and its name
+-- `/` and a field name, or `/script/`, the item's number, and for a field `/` and its name; empty for the whole value
 abbrev pub path_of : Place → List ℕ
-path_of (Top spot) = spot_path spot
-path_of (InItem n spot) = codes "/script/" ++ decimal n ++ spot_path spot
+path_of (Top Itself) = []
+path_of (Top (Of name)) = 47 ∷ name
+path_of (InItem n Itself) = codes "/script/" ++ decimal n
+path_of (InItem n (Of name)) = codes "/script/" ++ decimal n ++ 47 ∷ name

@@ -26,7 +26,7 @@ required name form = record { name = name; form = form; default = None }
 abbrev pub optional : List ℕ → Form → Given → Row
 optional name form given = record { name = name; form = form; default = Some given }
 
-abbrev pub top_rows : List Row
+unfoldable pub top_rows : List Row
 top_rows =
     required (codes "hosts") (Whole 1 64)
     ∷ required (codes "gateways") (Whole 1 8)

@@ -10,6 +10,7 @@ mod forms;
 mod items;
 mod names;
 mod refusal;
+mod scenario;
 mod script;
 mod tables;
 mod words;

@@ -340,6 +340,7 @@ static HOLD_ROWS: [Row; 2] = [
 ];
 
 /// The fields of a scenario.
+#[tactic(auto, unfolding(crate::specs::Tables::top_rows))]
 pub(crate) fn top_rows() -> &'static [Row]
     ensures { map row_view result.now ≡ tables.top_rows }
 {

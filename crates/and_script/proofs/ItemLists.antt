@@ -66,7 +66,9 @@ pub after_item : (list : List Value) (i : ℕ) (v : Value) (ws : List grammar.Wr
     (x : List grammar.Written) × (grammar.items_of 0 (items_view list) ≡ and_rest x (grammar.items_of (i + 1) (items_view (drop (i + 1) list))))
     × (names' ≡ grammar.names_from [] x) × (items' ≡ grammar.items_from [] x)
 after_item list i v ws w names names' items items' lt is e so named made names_is items_is =
-    let none : List (List ℕ) = [] in
-    (ws ++ w ∷ [], read_on list i v ws w lt is e so,
+    let none : List (List ℕ) = [] in (
+      ws ++ w ∷ [],
+      read_on list i v ws w lt is e so,
       names_is ∙ ap (λ n. grammar.with_name n w.name) named ∙ sym (names-one none ws w),
-      items_is ∙ ap₂ (λ l n. l ++ grammar.item_with (grammar.number_of n w.name) w.command w.values ∷ []) made named ∙ sym (items-one none ws w))
+      items_is ∙ ap₂ (λ l n. l ++ grammar.item_with (grammar.number_of n w.name) w.command w.values ∷ []) made named ∙ sym (items-one none ws w),
+    )

@@ -3,6 +3,7 @@
 
 pub use and_events::{Item, Scenario};
 pub use fault::ScenarioFault;
+pub use scenario::{read_scenario, read_value, scenario_of};
 
 mod fault;
 mod fields;

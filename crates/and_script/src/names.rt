@@ -3,6 +3,8 @@ ghost use Rattle.std.specs.Prelude.{◌≡◌, ◌+◌, ◌-◌, ◌^◌, ◌<�
 ghost use Rattle.std.specs.List.{position_or_len};
 ghost use Rattle.and_script.specs.Grammar.{with_name, number_of};
 
+use and_capture::Bytes;
+use and_events::Items;
 use and_policy::NoMemory;
 use indexmap::IndexSet;
 use std::alloc::Global;
@@ -57,5 +59,21 @@ impl Names {
         };
         let index = insert(&mut self.set, name)?;
         Ok(index as u32)
+    }
+
+    /// The names, by number.
+    pub(crate) fn into_items(self, alloc: Global) -> Result<Items<Bytes>, NoMemory>
+        ensures { IfOk result (λ items. items ≡ self) }
+    {
+        let mut names = Vec::new(alloc);
+        for name in self.set.iter() {
+            let Ok(bytes) = Bytes::make(alloc, name.as_bytes()) else {
+                return Err(NoMemory);
+            };
+            if names.push(bytes).is_err() {
+                return Err(NoMemory);
+            }
+        }
+        Ok(Items::from_vec(names))
     }
 }

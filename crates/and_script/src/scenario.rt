@@ -42,7 +42,9 @@ fn read_top<'a>(alloc: Global, value: &'a Value) -> Result<Vec<Given>, Refusal<'
     let rows = top_rows();
     match value.as_object() {
         Some(_) => read_members(alloc, false, rows, value),
-        None => Err(Refusal::Whole { cause: Cause::Field }),
+        None => Err(Refusal::Whole {
+            cause: Cause::Field,
+        }),
     }
 }
 
@@ -61,7 +63,7 @@ fn settings_by(values: &[Given]) -> Settings
             Given::Number(seal_queue),
             Given::Number(threshold),
             Given::Number(life),
-            ..,
+            ..
         ] => Settings {
             hosts: *hosts,
             gateways: *gateways,
@@ -171,4 +173,52 @@ fn item_fault(alloc: Global, refused: Refused) -> ScenarioFault
         Refusal::Whole { cause } => in_item(alloc, refused.item, cause, None),
         Refusal::NoMemory => ScenarioFault::NoMemory,
     }
+}
+
+/// The settings and the script of a scenario: its items, and the names of their VMs.
+fn read_script(
+    alloc: Global,
+    settings: Settings,
+    script: &[Value],
+) -> Result<Scenario, ScenarioFault>
+    ensures found { IfOk result (λ s. grammar.scripted settings (items_view script.now) ≡ Ok s) }
+    ensures refused { IfErr result (λ e. Tells e (grammar.scripted settings (items_view script.now))) }
+{
+    if 65536 < script.len() {
+        return Err(at_top(alloc, Cause::Limit, Some("script")));
+    }
+    let mut names = Names::new(alloc);
+    let mut items = Vec::new(alloc);
+    if let Err(refused) = read_items(alloc, script, &mut names, &mut items) {
+        return Err(item_fault(alloc, refused));
+    }
+    match names.into_items(alloc) {
+        Ok(names) => Ok(Scenario {
+            settings,
+            names,
+            items: Items::from_vec(items),
+        }),
+        Err(_) => Err(ScenarioFault::NoMemory),
+    }
+}
+
+/// The scenario that a JSON value is, or the first check that fails.
+pub fn scenario_of(alloc: Global, value: &Value) -> Result<Scenario, ScenarioFault>
+    ensures found { IfOk result (λ s. grammar.scenario_of (view value.now) ≡ Ok s) }
+    ensures refused { IfErr result (λ e. Tells e (grammar.scenario_of (view value.now))) }
+{
+    let values = match read_top(alloc, value) {
+        Ok(values) => values,
+        Err(refusal) => return Err(top_fault(alloc, refusal)),
+    };
+    read_script(alloc, settings_by(values.as_slice()), script_of(value))
+}
+
+/// Reads a scenario: a JSON text whose fields and items are those of the tables. The first check that fails is answered with its path.
+pub fn read_scenario(alloc: Global, bytes: &[u8]) -> Result<Scenario, ScenarioFault>
+    ensures found { IfOk result (λ s. (d : Data) × grammar.IsJson bytes.now d × (grammar.scenario_of d ≡ Ok s)) }
+    ensures refused { IfErr result (λ e. TellsOf bytes.now e) }
+{
+    let value = read_value(alloc, bytes)?;
+    scenario_of(alloc, &value)
 }

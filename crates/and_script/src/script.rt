@@ -36,7 +36,12 @@ fn vm_number(alloc: Global, names: &mut Names, name: Option<&str>) -> Result<u32
 }
 
 /// The items of the list, and the names of their VMs.
-pub(crate) fn read_items<'a>(alloc: Global, list: &'a [Value], names: &mut Names, items: &mut Vec<Item>) -> Result<(), Refused<'a>>
+pub(crate) fn read_items<'a>(
+    alloc: Global,
+    list: &'a [Value],
+    names: &mut Names,
+    items: &mut Vec<Item>,
+) -> Result<(), Refused<'a>>
     requires few { length list.now ≤ 65536 }
     requires no_names { names.old ≡ [] }
     requires no_items { items.old.items ≡ [] }
@@ -54,8 +59,14 @@ pub(crate) fn read_items<'a>(alloc: Global, list: &'a [Value], names: &mut Names
             Ok(vm) => vm,
             Err(refusal) => return Err(Refused { item, refusal }),
         };
-        if items.push(item_with(vm, draft.command, draft.values.as_slice())).is_err() {
-            return Err(Refused { item, refusal: Refusal::NoMemory });
+        if items
+            .push(item_with(vm, draft.command, draft.values.as_slice()))
+            .is_err()
+        {
+            return Err(Refused {
+                item,
+                refusal: Refusal::NoMemory,
+            });
         }
         item += 1;
     }

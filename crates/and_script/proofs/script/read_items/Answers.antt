@@ -13,7 +13,9 @@ loop-value-preserved c =
     let made : c.item_with.result ≡ grammar.item_with (number_of c.loop-value.names w.name) w.command w.values = search rules in
     let named : c.vm_number.new.names ≡ grammar.with_name c.loop-value.names w.name = search rules in
     let few : length c.vm_number.new.names ≤ c.loop-value.value-index + 1 = search rules in
-    let below : c.loop-value.value-index < length c.args.list.now = search rules in
-    (ap (λ n. n + 1) so.0, few,
+    let below : c.loop-value.value-index < length c.args.list.now = search rules in (
+      ap (λ n. n + 1) so.0,
+      few,
       after_item c.args.list.now c.loop-value.value-index c.value-item.result so.2.0 w c.loop-value.names c.vm_number.new.names c.loop-value.items.items c.push.new.self.items
-        below c.value-item.is c.in-Ok.ensures so.2.1 so.2.2 so.2.3 named (pushed ∙ ap (λ x. c.loop-value.items.items ++ x ∷ []) made))
+          below c.value-item.is c.in-Ok.ensures so.2.1 so.2.2 so.2.3 named (pushed ∙ ap (λ x. c.loop-value.items.items ++ x ∷ []) made),
+    )

@@ -1,2 +1,5 @@
 //! The top call: from command words, a scenario and a capture to the report.
 #![tactic(auto)]
+
+mod line;
+mod words;

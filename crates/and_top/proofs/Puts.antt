@@ -1,9 +1,8 @@
 -- Texts that are put one after another.
-use Rattle.std.proofs.Common.{◌≡◌, ◌≤◌, ◌+◌, ◌-◌, ◌^◌, ◌∙◌, ℕ, List, ◌++◌, Some, length, take, min, refl, sym, ap, append_assoc, arith, Bool, true, false, inl, inr}
+use Rattle.std.proofs.Common.{◌≤◌, ◌+◌, ◌∙◌, ℕ, List, ◌++◌, Some, length, take, min, sym, ap, append_assoc, arith, Bool, true, false, inl, inr}
 use Rattle.std.specs.Bool.{OnTrue, OnFalse}
 use Rattle.std.proofs.lemmas.List.{take_min, take-append-le}
 use Rattle.std.proofs.Math.Seq.{take-append-add}
-use Rattle.and_outside.specs.Causes.{Rose}
 use Rattle.and_top.specs.Telling.{Paper, Wrote, WrotePart, Tells}
 
 pub wrote-then : (a b : List ℕ) (old mid new : Paper) → Wrote a old mid → Wrote b mid new → Wrote (a ++ b) old new

@@ -7,6 +7,10 @@ pub record Paper : Type 0 where
   pub faults : ℕ
   pub written : Option (List ℕ)
 
+-- the sink x, by the meanings of its type
+abbrev pub paper : {X : Type 0} → (X → ℕ) → (X → Option (List ℕ)) → X → Paper
+paper faults written x = record { faults = faults x; written = written x }
+
 -- all of the text was appended
 abbrev pub Wrote : List ℕ → Paper → Paper → Type 0
 Wrote text old new = (w : List ℕ) → old.written ≡ Some w → new.written ≡ Some (w ++ text)

@@ -1,7 +1,5 @@
 use Rattle.std.proofs.Common.{◌++◌}
-use Rattle.and_top.specs.Telling.{Paper}
 use Rattle.and_top.proofs.Puts.{tells-after, tells-first, tells-last}
-use Rattle.and_top.proofs.line.tell.Given.{Over}
 use Rattle.and_top.proofs.line.tell.Goals as goal
 
 pub returns-then-not-put : goal.returns-then-not-put

@@ -9,3 +9,4 @@ pub mod Names
 pub mod Pieces
 pub mod Inputs
 pub mod Answers
+pub mod Statuses

@@ -3,6 +3,7 @@
 
 mod answers;
 mod captures;
+mod commands;
 mod direct;
 mod first_form;
 mod inputs;
@@ -12,6 +13,7 @@ mod replaying;
 mod words;
 
 pub use answers::{Fault, Job, ScenarioFault, Turns, Which};
+pub use commands::andromeda;
 pub use replaying::replay;
 
 /// The most bytes of a scenario's file.

@@ -1,8 +1,9 @@
 //! The replay of a scenario and the frames of a capture.
-ghost use Rattle.std.specs.Prelude.{◌≡◌, IfOk};
+ghost use Rattle.std.specs.Prelude.{◌≡◌, IfOk, IfErr};
 ghost use Rattle.and_top.specs.Plans.{CanPlan};
 ghost use Rattle.and_top.specs.Outside.{disk, Stays};
 ghost use Rattle.and_top.specs.Telling.{paper};
+ghost use Rattle.and_top.specs.Statuses.{CanComplete, IsLate};
 ghost use Rattle.and_top.specs.Answers.{Answers, names_in, report_of};
 
 use crate::answers::{Fault, Job, Which};
@@ -24,9 +25,8 @@ fn report_text(alloc: Global, scenario: Scenario, capture: Capture) -> Result<Ve
     direct_report(alloc, &plan)
 }
 
-/// Replays the job's scenario over the frames of its capture and puts the report into the sink. The
-/// first failure in that order is answered.
-pub fn replay<F: Files, O: Sink>(
+/// The work of a replay, up to its first failure.
+fn work<F: Files, O: Sink>(
     alloc: Global,
     job: &Job,
     files: &mut F,
@@ -45,4 +45,24 @@ pub fn replay<F: Files, O: Sink>(
         Ok(()) => Ok(()),
         Err(_) => Err(Fault::Write(Which::Report)),
     }
+}
+
+/// Replays the job's scenario over the frames of its capture and puts the report into the sink. The
+/// first failure in that order is answered, and no file is written.
+///
+/// Where both files are told, within their limits and accepted, and no read can have failed, it
+/// answers `Ok`, or that memory ran out or that the put of the report failed.
+pub fn replay<F: Files, O: Sink>(
+    alloc: Global,
+    job: &Job,
+    files: &mut F,
+    out: &mut O,
+) -> Result<(), Fault>
+    ensures stays { Stays (disk F.read_faults F.write_faults F.taken F.calm F.content files.old) (disk F.read_faults F.write_faults F.taken F.calm F.content files.new) }
+    ensures answer { Answers (names_in job.now) (disk F.read_faults F.write_faults F.taken F.calm F.content files.old) (disk F.read_faults F.write_faults F.taken F.calm F.content files.new)
+        (paper O.faults O.written out.old) (paper O.faults O.written out.new) result }
+    ensures complete { CanComplete (names_in job.now) (disk F.read_faults F.write_faults F.taken F.calm F.content files.old) (disk F.read_faults F.write_faults F.taken F.calm F.content files.new)
+        → IfErr result IsLate }
+{
+    work(alloc, job, files, out)
 }

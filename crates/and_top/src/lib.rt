@@ -10,6 +10,8 @@ mod inputs;
 mod line;
 mod plan;
 mod replaying;
+#[cfg(test)]
+mod tests;
 mod words;
 
 pub use answers::{Fault, Job, ScenarioFault, Turns, Which};

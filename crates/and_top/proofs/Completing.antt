@@ -11,7 +11,7 @@ use Rattle.and_top.specs.FirstForm.{IsFirstForm}
 use Rattle.and_top.specs.Inputs.{ScenarioFails, CaptureFails, Refuses, IsFirstCapture}
 use Rattle.and_top.specs.Outside.{Disk, IsQuiet, ReadFailed, WasTooLong}
 use Rattle.and_top.specs.Statuses.{CanComplete, IsLate}
-use Rattle.and_top.specs.Telling.{Paper}
+use Rattle.and_top.specs.Telling.{Stream}
 use Rattle.and_top.specs.Words.{Named}
 
 no_read_failed : (old new : Disk) (name t : List ℕ) → old.content name ≡ Some t → IsQuiet old new → ReadFailed old new name → ⊥
@@ -39,7 +39,7 @@ capture_late names old new (faults.Capture capture_faults.NotBuilt) can f =
 capture_late names old new faults.NoMemory can f = tt
 capture_late names old new _ can f = absurd f
 
-put_late : (names : Named) (old : Disk) (before after : Paper) (fault : Fault) → PutFails names old before after fault → IsLate fault
+put_late : (names : Named) (old : Disk) (before after : Stream) (fault : Fault) → PutFails names old before after fault → IsLate fault
 put_late names old before after (faults.Write which.Report) f = tt
 put_late names old before after _ f = absurd f
 
@@ -47,7 +47,7 @@ refused_late : (names : Named) (old new : Disk) (fault : Fault) → CanComplete 
 refused_late names old new fault can (inl f) = scenario_late names old new fault can f
 refused_late names old new fault can (inr f) = capture_late names old new fault can f.2
 
-pub completes : (names : Named) (old new : Disk) (before after : Paper) (result : Result (Unit {0}) Fault)
+pub completes : (names : Named) (old new : Disk) (before after : Stream) (result : Result (Unit {0}) Fault)
     → CanComplete names old new → Answers names old new before after result → IfErr result IsLate
 completes names old new before after (Ok done) can a = tt
 completes names old new before after (Err fault) can (inl a) = refused_late names old new fault can a.0

@@ -11,7 +11,7 @@ use Rattle.and_top.specs.Direct.{direct_tally}
 use Rattle.and_top.specs.Inputs.{ScenarioAt, CaptureAt, Refuses}
 use Rattle.and_top.specs.Outside.{Disk}
 use Rattle.and_top.specs.Report.{report}
-use Rattle.and_top.specs.Telling.{Paper, Wrote, WrotePart}
+use Rattle.and_top.specs.Telling.{Stream, Wrote, WrotePart}
 use Rattle.and_top.specs.Words.{Named}
 
 -- the names of a job
@@ -28,12 +28,12 @@ Reports names files put = (scenario : Scenario) × (capture : Capture)
     × ScenarioAt files names.scenario scenario × CaptureAt files names.capture capture × put (report_of scenario capture)
 
 -- The put of the report failed: faults of the sink rose, and a prefix stands there.
-abbrev pub PutFails : Named → Disk → Paper → Paper → Fault → Type 0
+abbrev pub PutFails : Named → Disk → Stream → Stream → Fault → Type 0
 PutFails names files before after (faults.Write which.Report) = Reports names files (λ text. WrotePart text before after)
 PutFails names files before after _ = ⊥
 
 -- The answer of a replay between two states of the files and of the report's sink. At any fault but that of the put, nothing was put.
-abbrev pub Answers : Named → Disk → Disk → Paper → Paper → Result (Unit {0}) Fault → Type 0
+abbrev pub Answers : Named → Disk → Disk → Stream → Stream → Result (Unit {0}) Fault → Type 0
 Answers names old new before after (Ok done) = Reports names old (λ text. Wrote text before after)
 Answers names old new before after (Err fault) =
     (Refuses names old new fault × (after ≡ before)) ⊎ PutFails names old before after fault

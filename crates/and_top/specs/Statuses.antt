@@ -11,7 +11,7 @@ use Rattle.and_top.specs.Answers.{Answers}
 use Rattle.and_top.specs.FirstForm.{IsFirstForm}
 use Rattle.and_top.specs.Inputs.{IsFirstCapture}
 use Rattle.and_top.specs.Outside.{Disk, IsQuiet}
-use Rattle.and_top.specs.Telling.{Paper, Tells}
+use Rattle.and_top.specs.Telling.{Stream, Tells}
 use Rattle.and_top.specs.Words.{Named}
 
 -- the status of each fault; 1 is that of words that are no command
@@ -49,12 +49,12 @@ fault_line names (faults.TooLong file) = codes "too long: " ++ (file_name names 
 fault_line names faults.NoMemory = codes "no memory" ++ 10 ∷ []
 
 -- nothing is said of an Ok; of a fault its line
-abbrev pub Says : Named → Result (Unit {0}) Fault → Paper → Paper → Type 0
+abbrev pub Says : Named → Result (Unit {0}) Fault → Stream → Stream → Type 0
 Says names (Ok done) old new = new ≡ old
 Says names (Err fault) old new = Tells (fault_line names fault) old new
 
 -- A replay was done between these states of the files, of the report's sink and of the user's, and this is its status.
-pub record Replayed (names : Named) (old new : Disk) (before after err_before err_after : Paper) (status : ℕ) : Type 0 where
+pub record Replayed (names : Named) (old new : Disk) (before after err_before err_after : Stream) (status : ℕ) : Type 0 where
   pub answer : Result (Unit {0}) Fault
   pub answers : Answers names old new before after answer
   pub status_is : status ≡ status_of answer

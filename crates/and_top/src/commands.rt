@@ -1,7 +1,7 @@
 //! The program's command line: words, a status and a line for the user.
 ghost use Rattle.std.specs.Prelude.{◌≡◌, ◌↔◌, ◌⊎◌, ◌++◌, ◌∷◌, [], ℕ, List, map, Some, None, IfOk, IfErr, string_bytes};
 ghost use Rattle.and_top.specs.Outside.{disk, Stays};
-ghost use Rattle.and_top.specs.Telling.{paper, Tells};
+ghost use Rattle.and_top.specs.Telling.{stream, Tells};
 ghost use Rattle.and_top.specs.Pieces.{text_of};
 ghost use Rattle.and_top.specs.Words.{Named, command_of};
 ghost use Rattle.and_top.specs.Names.{named};
@@ -39,7 +39,7 @@ fn run<F: Files, O: Sink>(
 ) -> Result<(), Fault>
     ensures stays { Stays (disk F.read_faults F.write_faults F.taken F.calm F.content files.old) (disk F.read_faults F.write_faults F.taken F.calm F.content files.new) }
     ensures answer { Answers (named names.now) (disk F.read_faults F.write_faults F.taken F.calm F.content files.old) (disk F.read_faults F.write_faults F.taken F.calm F.content files.new)
-        (paper O.faults O.written out.old) (paper O.faults O.written out.new) result }
+        (stream O.faults O.written out.old) (stream O.faults O.written out.new) result }
     ensures complete { CanComplete (named names.now) (disk F.read_faults F.write_faults F.taken F.calm F.content files.old) (disk F.read_faults F.write_faults F.taken F.calm F.content files.new)
         → IfErr result IsLate }
 {
@@ -115,10 +115,10 @@ pub fn andromeda<F: Files, O: Sink, E: Sink>(
     ensures stays { Stays (disk F.read_faults F.write_faults F.taken F.calm F.content files.old) (disk F.read_faults F.write_faults F.taken F.calm F.content files.new) }
     ensures usage { (result ≡ 1) ↔ (command_of (map string_bytes words.now) ≡ None) }
     ensures no_command { command_of (map string_bytes words.now) ≡ None → (files.new ≡ files.old) × (out.new ≡ out.old)
-        × Tells usage_text (paper E.faults E.written err.old) (paper E.faults E.written err.new) }
+        × Tells usage_text (stream E.faults E.written err.old) (stream E.faults E.written err.new) }
     ensures replayed { (names : Named) → command_of (map string_bytes words.now) ≡ Some names
         → Replayed names (disk F.read_faults F.write_faults F.taken F.calm F.content files.old) (disk F.read_faults F.write_faults F.taken F.calm F.content files.new)
-        (paper O.faults O.written out.old) (paper O.faults O.written out.new) (paper E.faults E.written err.old) (paper E.faults E.written err.new) result }
+        (stream O.faults O.written out.old) (stream O.faults O.written out.new) (stream E.faults E.written err.old) (stream E.faults E.written err.new) result }
     ensures complete { (names : Named) → command_of (map string_bytes words.now) ≡ Some names
         → CanComplete names (disk F.read_faults F.write_faults F.taken F.calm F.content files.old) (disk F.read_faults F.write_faults F.taken F.calm F.content files.new)
         → (result ≡ 0) ⊎ ((result ≡ 5) ⊎ (result ≡ 6)) }

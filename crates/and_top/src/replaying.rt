@@ -2,7 +2,7 @@
 ghost use Rattle.std.specs.Prelude.{◌≡◌, IfOk, IfErr};
 ghost use Rattle.and_top.specs.Plans.{CanPlan};
 ghost use Rattle.and_top.specs.Outside.{disk, Stays};
-ghost use Rattle.and_top.specs.Telling.{paper};
+ghost use Rattle.and_top.specs.Telling.{stream};
 ghost use Rattle.and_top.specs.Statuses.{CanComplete, IsLate};
 ghost use Rattle.and_top.specs.Answers.{Answers, names_in, report_of};
 
@@ -34,7 +34,7 @@ fn work<F: Files, O: Sink>(
 ) -> Result<(), Fault>
     ensures stays { Stays (disk F.read_faults F.write_faults F.taken F.calm F.content files.old) (disk F.read_faults F.write_faults F.taken F.calm F.content files.new) }
     ensures answer { Answers (names_in job.now) (disk F.read_faults F.write_faults F.taken F.calm F.content files.old) (disk F.read_faults F.write_faults F.taken F.calm F.content files.new)
-        (paper O.faults O.written out.old) (paper O.faults O.written out.new) result }
+        (stream O.faults O.written out.old) (stream O.faults O.written out.new) result }
 {
     let scenario = scenario_in(alloc, job.scenario.as_str(), files)?;
     let capture = capture_in(alloc, job.capture.as_str(), files)?;
@@ -60,7 +60,7 @@ pub fn replay<F: Files, O: Sink>(
 ) -> Result<(), Fault>
     ensures stays { Stays (disk F.read_faults F.write_faults F.taken F.calm F.content files.old) (disk F.read_faults F.write_faults F.taken F.calm F.content files.new) }
     ensures answer { Answers (names_in job.now) (disk F.read_faults F.write_faults F.taken F.calm F.content files.old) (disk F.read_faults F.write_faults F.taken F.calm F.content files.new)
-        (paper O.faults O.written out.old) (paper O.faults O.written out.new) result }
+        (stream O.faults O.written out.old) (stream O.faults O.written out.new) result }
     ensures complete { CanComplete (names_in job.now) (disk F.read_faults F.write_faults F.taken F.calm F.content files.old) (disk F.read_faults F.write_faults F.taken F.calm F.content files.new)
         → IfErr result IsLate }
 {

@@ -11,6 +11,8 @@ mod index;
 mod log;
 mod memory;
 mod packet;
+mod tables;
+mod underlay;
 
 pub use decision::{
     Decision, Dest, Exit, GateDecision, Landing, Leaving, Located, Name, Outcome, Routed, Routing,
@@ -20,3 +22,5 @@ pub use entry::{Entry, EntryFault, FlowKey, Op, Order, Prefix, Route, Rule, Side
 pub use log::Log;
 pub use memory::NoMemory;
 pub use packet::{Fields, Skip, Tuple};
+pub use tables::{Batch, Tables};
+pub use underlay::{flow_hash, host_address, redirect_address, route_address};

@@ -1,3 +1,4 @@
 pub mod Appends
 pub mod Indexing
 pub mod Logging
+pub mod LoggedLemmas

@@ -13,3 +13,4 @@ pub mod Programmes
 pub mod Outer
 pub mod LogView
 pub mod Indexes
+pub mod Logged

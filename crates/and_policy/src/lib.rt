@@ -11,6 +11,7 @@ mod index;
 mod log;
 mod memory;
 mod packet;
+pub mod plain;
 mod tables;
 mod underlay;
 

@@ -1,0 +1,86 @@
+//! VMs of a prefix.
+ghost use Rattle.std.specs.Prelude.{◌≡◌, ◌==◌, option_map, option_and_then};
+ghost use Rattle.std.specs.List.{find, list_any};
+ghost use Rattle.and_policy.specs.Logged.{entries_in, before, is_entry};
+ghost use Rattle.and_policy.specs.Logs as logs;
+ghost use Rattle.and_policy.specs.Owners as owners;
+
+use crate::entry::Entry;
+use crate::plain::logged::Logged;
+
+// Whether the entry removes the VM.
+fn removes(vm: u32, entry: Option<Entry>) -> bool
+    ensures { result ≡ is_entry (logs.removes vm) entry }
+{
+    match entry {
+        Some(Entry::RemoveVm { vm: removed }) => removed == vm,
+        _ => false,
+    }
+}
+
+// Whether an entry removes the VM.
+fn is_removed<T: Logged>(log: &[T], vm: u32) -> bool
+    ensures { result ≡ list_any (logs.removes vm) (entries_in T.entry_of log.now) }
+{
+    let mut removed = false;
+    let mut at = log.len();
+    while at > 0 {
+        at -= 1;
+        removed = removes(vm, log[at].entry()) || removed;
+    }
+    removed
+}
+
+// The host to which the entry brings the VM.
+fn host_by(vm: u32, entry: Option<Entry>) -> Option<u32>
+    ensures { result ≡ option_and_then (owners.host_by vm) entry }
+{
+    match entry {
+        Some(Entry::AddVm { vm: v, host, .. }) if v == vm => Some(host),
+        Some(Entry::Place { vm: v, host }) if v == vm => Some(host),
+        _ => None,
+    }
+}
+
+/// The host of the VM's last `AddVm` or `Place` entry.
+pub(crate) fn place<T: Logged>(log: &[T], vm: u32) -> Option<u32>
+    ensures { result ≡ owners.place (entries_in T.entry_of log.now) vm }
+{
+    let mut found = None;
+    let mut at = log.len();
+    while at > 0 {
+        at -= 1;
+        found = found.or(host_by(vm, log[at].entry()));
+    }
+    found
+}
+
+// The number of the live VM that passes, the first of them: where the entry adds it and no later one removes it.
+fn owner_step<T: Logged>(
+    net: u32,
+    address: u32,
+    item: &T,
+    later: &[T],
+    found: Option<u32>,
+) -> Option<u32>
+    requires { found ≡ owners.owner (entries_in T.entry_of later.now) net address }
+    ensures { result ≡ owners.owner (before (T.entry_of item.now) (entries_in T.entry_of later.now)) net address }
+{
+    match item.entry() {
+        Some(Entry::AddVm { vm, net: n, ip, .. }) if n == net && ip == address && !is_removed(later, vm) => Some(vm),
+        _ => found,
+    }
+}
+
+/// The live VM of the network with this address.
+pub(crate) fn owner<T: Logged>(log: &[T], net: u32, address: u32) -> Option<u32>
+    ensures { result ≡ owners.owner (entries_in T.entry_of log.now) net address }
+{
+    let mut found = None;
+    let mut at = log.len();
+    while at > 0 {
+        at -= 1;
+        found = owner_step(net, address, &log[at], &log[at + 1..], found);
+    }
+    found
+}

@@ -2,3 +2,4 @@ pub mod Appends
 pub mod Indexing
 pub mod Logging
 pub mod LoggedLemmas
+pub mod Deciding

@@ -14,3 +14,4 @@ pub mod Outer
 pub mod LogView
 pub mod Indexes
 pub mod Logged
+pub mod Homes

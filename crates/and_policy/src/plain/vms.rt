@@ -3,6 +3,7 @@ ghost use Rattle.std.specs.Prelude.{◌≡◌, ◌==◌, option_map, option_and_
 ghost use Rattle.std.specs.List.{find, list_any};
 ghost use Rattle.and_policy.specs.Logged.{entries_in, before, is_entry};
 ghost use Rattle.and_policy.specs.Logs as logs;
+ghost use Rattle.and_policy.specs.Homes.{home_of};
 ghost use Rattle.and_policy.specs.Owners as owners;
 
 use crate::entry::Entry;
@@ -67,7 +68,8 @@ fn owner_step<T: Logged>(
     ensures { result ≡ owners.owner (before (T.entry_of item.now) (entries_in T.entry_of later.now)) net address }
 {
     match item.entry() {
-        Some(Entry::AddVm { vm, net: n, ip, .. }) if n == net && ip == address && !is_removed(later, vm) => Some(vm),
+        Some(Entry::AddVm { vm, net: n, ip, .. })
+            if n == net && ip == address && !is_removed(later, vm) => Some(vm),
         _ => found,
     }
 }
@@ -83,4 +85,48 @@ pub(crate) fn owner<T: Logged>(log: &[T], net: u32, address: u32) -> Option<u32>
         found = owner_step(net, address, &log[at], &log[at + 1..], found);
     }
     found
+}
+
+/// Network and address of a VM.
+#[derive(Debug, Clone, Copy, PartialEq, Eq)]
+pub(crate) struct Home {
+    /// The network.
+    pub(crate) net: u32,
+    /// The IPv4 address.
+    pub(crate) ip: u32,
+}
+
+// The live VM of this number, one item further to the front.
+fn home_step<T: Logged>(vm: u32, item: &T, later: &[T], found: Option<Home>) -> Option<Home>
+    requires { found ≡ option_map home_of (logs.vm_of (entries_in T.entry_of later.now) vm) }
+    ensures { result ≡ option_map home_of (logs.vm_of (before (T.entry_of item.now) (entries_in T.entry_of later.now)) vm) }
+{
+    match item.entry() {
+        Some(Entry::AddVm { vm: v, net, ip, .. }) if v == vm && !is_removed(later, v) => Some(Home {
+            net,
+            ip,
+        }),
+        _ => found,
+    }
+}
+
+/// Network and address of the live VM of this number.
+pub(crate) fn find_home<T: Logged>(log: &[T], vm: u32) -> Option<Home>
+    ensures { result ≡ option_map home_of (logs.vm_of (entries_in T.entry_of log.now) vm) }
+{
+    let mut found = None;
+    let mut at = log.len();
+    while at > 0 {
+        at -= 1;
+        found = home_step(vm, &log[at], &log[at + 1..], found);
+    }
+    found
+}
+
+/// The place of the owner of the address in the network.
+pub(crate) fn owner_place<T: Logged>(log: &[T], net: u32, address: u32) -> Option<u32>
+    ensures { result ≡ owners.owner_place (entries_in T.entry_of log.now) net address }
+{
+    let vm = owner(log, net, address)?;
+    place(log, vm)
 }

@@ -1,0 +1,106 @@
+//! Routes of a prefix.
+ghost use Rattle.std.specs.Prelude.{◌≡◌, Some, if◌then◌else◌};
+ghost use Rattle.std.specs.List.{list_any};
+ghost use Rattle.and_policy.specs.Logged.{entries_in, before, is_entry};
+ghost use Rattle.and_policy.specs.Logs as logs;
+ghost use Rattle.and_policy.specs.Matching as matching;
+ghost use Rattle.and_policy.specs.Routes as spec;
+
+use crate::decision::{Name, Routing};
+use crate::entry::{Entry, Route, Target};
+use crate::plain::logged::Logged;
+use crate::plain::rules::holds;
+
+// Whether the route comes before the other: by the length of the prefix, the greater first, then by number.
+fn is_before(a: &Route, b: &Route) -> bool
+    ensures { result ≡ spec.route_before a.now b.now }
+{
+    a.prefix.length > b.prefix.length || (a.prefix.length == b.prefix.length && a.number < b.number)
+}
+
+// Whether the route decides in place of the best of those behind it.
+fn decides(address: u32, route: &Route, best: Option<Route>) -> bool
+    ensures { (if result then Some route.now else best) ≡ (if matching.holds route.now.prefix address then Some (matching.better spec.route_before route.now best) else best) }
+{
+    if !holds(&route.prefix, address) {
+        return false;
+    }
+    match best {
+        None => true,
+        Some(best) => !is_before(&best, route),
+    }
+}
+
+// Whether the entry deletes the route.
+fn deletes(net: u32, number: u32, entry: Option<Entry>) -> bool
+    ensures { result ≡ is_entry (logs.deletes_route net number) entry }
+{
+    match entry {
+        Some(Entry::DelRoute { net: n, number: m }) => n == net && m == number,
+        _ => false,
+    }
+}
+
+// Whether an entry deletes the route.
+fn is_deleted<T: Logged>(log: &[T], net: u32, number: u32) -> bool
+    ensures { result ≡ list_any (logs.deletes_route net number) (entries_in T.entry_of log.now) }
+{
+    let mut deleted = false;
+    let mut at = log.len();
+    while at > 0 {
+        at -= 1;
+        deleted = deletes(net, number, log[at].entry()) || deleted;
+    }
+    deleted
+}
+
+// The route that decides, one item further to the front. A route counts only where no later entry deletes it.
+fn deciding_step<T: Logged>(
+    address: u32,
+    net: u32,
+    item: &T,
+    later: &[T],
+    best: Option<Route>,
+) -> Option<Route>
+    requires { best ≡ spec.deciding_route address (logs.routes (entries_in T.entry_of later.now) net) }
+    ensures { result ≡ spec.deciding_route address (logs.routes (before (T.entry_of item.now) (entries_in T.entry_of later.now)) net) }
+{
+    match item.entry() {
+        Some(Entry::AddRoute { net: n, route })
+            if n == net
+                && decides(address, &route, best)
+                && !is_deleted(later, net, route.number) => { Some(route) }
+        _ => best,
+    }
+}
+
+// What a network's routes say where this one decides.
+fn routing_by(net: u32, route: Option<Route>) -> Routing
+    ensures { result ≡ spec.routing_by net route }
+{
+    let Some(route) = route else {
+        return Routing::Into {
+            by: Name::Implied,
+            net,
+        };
+    };
+    let by = Name::Rule(route.number);
+    match route.target {
+        Target::Local => Routing::Into { by, net },
+        Target::Peer(peer) => Routing::Into { by, net: peer },
+        Target::Drop => Routing::Dropped { by },
+    }
+}
+
+/// What the live routes of the network say of a destination.
+pub(crate) fn route_in<T: Logged>(log: &[T], net: u32, address: u32) -> Routing
+    ensures { result ≡ spec.route (entries_in T.entry_of log.now) net address }
+{
+    let mut best = None;
+    let mut at = log.len();
+    while at > 0 {
+        at -= 1;
+        best = deciding_step(address, net, &log[at], &log[at + 1..], best);
+    }
+    routing_by(net, best)
+}

@@ -1,10 +1,11 @@
 //! VMs of a prefix.
-ghost use Rattle.std.specs.Prelude.{◌≡◌, ◌==◌, option_map, option_and_then};
-ghost use Rattle.std.specs.List.{find, list_any};
+ghost use Rattle.std.specs.Prelude.{◌≡◌, ◌+◌, ◌≤◌, List, option_map, option_and_then};
+ghost use Rattle.std.specs.List.{list_any};
 ghost use Rattle.and_policy.specs.Logged.{entries_in, before, is_entry};
 ghost use Rattle.and_policy.specs.Logs as logs;
 ghost use Rattle.and_policy.specs.Homes.{home_of};
 ghost use Rattle.and_policy.specs.Owners as owners;
+ghost use Rattle.and_policy.specs.Programmes as programmes;
 
 use crate::entry::Entry;
 use crate::plain::logged::Logged;
@@ -129,4 +130,67 @@ pub(crate) fn owner_place<T: Logged>(log: &[T], net: u32, address: u32) -> Optio
 {
     let vm = owner(log, net, address)?;
     place(log, vm)
+}
+
+// The network of the VM, as its entry added it, one item further to the front.
+fn net_step(vm: u32, entry: Option<Entry>, found: Option<u32>) -> Option<u32>
+    ensures { (k : List Entry) → found ≡ programmes.net_of_vm k vm → result ≡ programmes.net_of_vm (before entry k) vm }
+{
+    match entry {
+        Some(Entry::AddVm { vm: v, net, .. }) if v == vm => Some(net),
+        _ => found,
+    }
+}
+
+// The network of the VM, as its entry added it, whether it was removed since or not.
+fn net_of_vm<T: Logged>(log: &[T], vm: u32) -> Option<u32>
+    ensures { result ≡ programmes.net_of_vm (entries_in T.entry_of log.now) vm }
+{
+    let mut found = None;
+    let mut at = log.len();
+    while at > 0 {
+        at -= 1;
+        found = net_step(vm, log[at].entry(), found);
+    }
+    found
+}
+
+/// The network of an entry: the one that it names, or that of its VM. The peer of a route does not count.
+pub(crate) fn net_of<T: Logged>(log: &[T], entry: &Entry) -> Option<u32>
+    ensures { result ≡ programmes.net_of (entries_in T.entry_of log.now) entry.now }
+{
+    match *entry {
+        Entry::AddNet { net }
+        | Entry::AddVm { net, .. }
+        | Entry::AddRule { net, .. }
+        | Entry::DelRule { net, .. }
+        | Entry::AddRoute { net, .. }
+        | Entry::DelRoute { net, .. } => Some(net),
+        Entry::RemoveVm { vm } | Entry::Place { vm, .. } => net_of_vm(log, vm),
+        Entry::Tick => None,
+    }
+}
+
+// One where the entry is a tick.
+fn ticks(entry: Option<Entry>) -> usize
+    ensures one { result ≤ 1 }
+    ensures step { (k : List Entry) → logs.now (before entry k) ≡ result + logs.now k }
+{
+    match entry {
+        Some(Entry::Tick) => 1,
+        _ => 0,
+    }
+}
+
+/// The number of ticks.
+pub(crate) fn now<T: Logged>(log: &[T]) -> usize
+    ensures { result ≡ logs.now (entries_in T.entry_of log.now) }
+{
+    let mut count = 0;
+    let mut at = log.len();
+    while at > 0 {
+        at -= 1;
+        count = ticks(log[at].entry()) + count;
+    }
+    count
 }

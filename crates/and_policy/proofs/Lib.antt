@@ -3,3 +3,4 @@ pub mod Indexing
 pub mod Logging
 pub mod LoggedLemmas
 pub mod Deciding
+pub mod Ended

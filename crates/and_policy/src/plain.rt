@@ -3,21 +3,23 @@
 //!
 //! The functions over a log take a list of entries. Those whose name ends in `_at`, and those that speak of offload orders,
 //! take the operations of a node's programme and how many of them count.
-ghost use Rattle.std.specs.Prelude.{◌≡◌, ◌≤◌, length};
+ghost use Rattle.std.specs.Prelude.{◌≡◌, ◌<◌, ◌≤◌, length};
 ghost use Rattle.and_policy.specs.Egress as egresses;
 ghost use Rattle.and_policy.specs.Ingress as ingresses;
 ghost use Rattle.and_policy.specs.Owners as owners;
+ghost use Rattle.and_policy.specs.Programmes as programmes;
 ghost use Rattle.and_policy.specs.Programmes.{prefix};
 ghost use Rattle.and_policy.specs.Routes as routes;
 
 mod logged;
+mod orders;
 mod routes;
 mod rules;
 mod sides;
 mod vms;
 
-use crate::decision::{Exit, Landing, Located, Routed, Routing};
-use crate::entry::{Entry, Op};
+use crate::decision::{Exit, Landing, Leaving, Located, Routed, Routing};
+use crate::entry::{Entry, Op, Order};
 use crate::packet::Tuple;
 pub use rules::verdict;
 
@@ -88,4 +90,24 @@ pub fn located_at(ops: &[Op], count: u32, net: u32, address: u32) -> Located
     ensures { result ≡ owners.located (prefix ops.now count) net address }
 {
     sides::located_in(&ops[..count as usize], net, address)
+}
+
+/// The live order for this source network and address under the first `count` operations.
+#[tactic(auto, using(crate::proofs::LoggedLemmas::entries_of_ops))]
+pub fn live(ops: &[Op], count: u32, net: u32, ip: u32) -> Option<Order>
+    requires { count ≤ length ops.now }
+    ensures { result ≡ programmes.live ops.now count net ip }
+{
+    orders::live_in(&ops[..count as usize], net, ip)
+}
+
+/// What the first `count` operations say of a packet of this VM, with this many gateways. A packet that may leave goes by
+/// the live order for its network and destination, or else to the gateway of its flow hash.
+#[tactic(auto, using(crate::proofs::LoggedLemmas::entries_of_ops))]
+pub fn leaving(gateways: u32, ops: &[Op], count: u32, vm: u32, tuple: &Tuple) -> Leaving
+    requires gateways { 0 < gateways }
+    requires count { count ≤ length ops.now }
+    ensures { result ≡ programmes.leaving gateways ops.now count vm tuple.now }
+{
+    orders::leaving_in(gateways, &ops[..count as usize], vm, tuple)
 }

@@ -4,3 +4,4 @@ pub mod Logging
 pub mod LoggedLemmas
 pub mod Deciding
 pub mod Ended
+pub mod Touched

@@ -16,6 +16,7 @@ mod orders;
 mod routes;
 mod rules;
 mod sides;
+mod touches;
 mod vms;
 
 use crate::decision::{Exit, Landing, Leaving, Located, Routed, Routing};
@@ -110,4 +111,12 @@ pub fn leaving(gateways: u32, ops: &[Op], count: u32, vm: u32, tuple: &Tuple) ->
     ensures { result ≡ programmes.leaving gateways ops.now count vm tuple.now }
 {
     orders::leaving_in(gateways, &ops[..count as usize], vm, tuple)
+}
+
+/// The greatest place up to `count` whose operation touches the network, or 0. Places count from 1.
+pub fn touched(ops: &[Op], count: u32, net: u32) -> u32
+    requires { count ≤ length ops.now }
+    ensures { result ≡ programmes.touched ops.now count net }
+{
+    touches::touched_in(ops, count, net)
 }

@@ -14,8 +14,8 @@ use crate::plain::sides::egress_in;
 use crate::plain::vms::{Home, find_home, net_of, now};
 use crate::underlay::flow_hash;
 
-// Whether the network is this one.
-fn is_net(found: Option<u32>, net: u32) -> bool
+/// Whether the network is this one.
+pub(crate) fn is_net(found: Option<u32>, net: u32) -> bool
     ensures { result ≡ spec.is_net found net }
 {
     match found {
@@ -60,8 +60,8 @@ fn is_ended(ops: &[Op], order: &Order, later: &[Op]) -> bool
     ended
 }
 
-// Whether the order lives, `later` being what stands after it among `ops`.
-fn lives(ops: &[Op], order: &Order, later: &[Op]) -> bool
+/// Whether the order lives, `later` being what stands after it among `ops`.
+pub(crate) fn lives(ops: &[Op], order: &Order, later: &[Op]) -> bool
     ensures { result ≡ spec.lives (entries_in entry_of_op ops.now) order.now later.now }
 {
     !is_ended(ops, order, later) && now(ops) < order.until as usize

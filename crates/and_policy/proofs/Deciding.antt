@@ -1,13 +1,14 @@
 -- The first of a list by an order, with one element more in front; rules and routes that later entries delete do not count.
-use Rattle.std.proofs.Common.{◌≡◌, ℕ, Bool, true, false, ◌&&◌, not, List, [], ◌∷◌, Option, Some, None, refl, ap, sym, ◌∙◌, subst}
+use Rattle.std.proofs.Common.{◌≡◌, ℕ, Bool, true, false, ◌&&◌, ◌||◌, not, List, [], ◌∷◌, Option, Some, None, refl, ap, sym, ◌∙◌, subst}
 use Rattle.std.specs.Prelude.{if◌then◌else◌, ◌==◌}
 use Rattle.std.specs.List.{list_any, filter}
 use Rattle.and_policy.specs.declared.packet.Tuple.{Tuple}
 use Rattle.and_policy.specs.declared.entry.Entry.{Entry}
-use Rattle.and_policy.specs.declared.entry.Entry.TheVariants.{AddRule, AddRoute}
+use Rattle.and_policy.specs.declared.entry.Entry.TheVariants.{AddRule, DelRule, AddRoute, DelRoute}
 use Rattle.and_policy.specs.declared.entry.Rule.{Rule}
 use Rattle.and_policy.specs.declared.entry.Route.{Route}
 use Rattle.and_policy.specs.declared.entry.Side.{Side}
+use Rattle.and_policy.specs.Deletions.{deletes_some_rule, deletes_some_route}
 use Rattle.and_policy.specs.Egress.{deciding_rule, rule_before}
 use Rattle.and_policy.specs.Routes.{deciding_route, route_before}
 use Rattle.and_policy.specs.Logs.{rules, deletes_rule, routes, deletes_route}
@@ -49,3 +50,20 @@ pub route_more : (address : ℕ) (k : List Entry) (net n : ℕ) (route : Route) 
     × (next ≡ best → best ≡ deciding_route address (routes (AddRoute n route ∷ k) net))
 route_more address k net n route best next here is step =
     counted route_before (λ r. holds r.prefix address) (n == net) (list_any (deletes_route net route.number) k) route (routes k net) best next here is step
+
+both : (a b c d : Bool) → (a || c) ≡ false → (c ≡ false → d ≡ false) → ((a && b) || d) ≡ false
+both true b c d h f = absurd (cc h)
+both false b c d h f = f h
+
+-- where no entry deletes a rule of the network, none deletes this one
+pub no_rule_deleted : (net number : ℕ) (k : List Entry) → list_any (deletes_some_rule net) k ≡ false → list_any (deletes_rule net number) k ≡ false
+no_rule_deleted net number [] h = refl
+no_rule_deleted net number (DelRule n m ∷ k) h =
+    both (n == net) (m == number) (list_any (deletes_some_rule net) k) (list_any (deletes_rule net number) k) h (no_rule_deleted net number k)
+no_rule_deleted net number (_ ∷ k) h = no_rule_deleted net number k h
+
+pub no_route_deleted : (net number : ℕ) (k : List Entry) → list_any (deletes_some_route net) k ≡ false → list_any (deletes_route net number) k ≡ false
+no_route_deleted net number [] h = refl
+no_route_deleted net number (DelRoute n m ∷ k) h =
+    both (n == net) (m == number) (list_any (deletes_some_route net) k) (list_any (deletes_route net number) k) h (no_route_deleted net number k)
+no_route_deleted net number (_ ∷ k) h = no_route_deleted net number k h

@@ -15,3 +15,4 @@ pub mod LogView
 pub mod Indexes
 pub mod Logged
 pub mod Homes
+pub mod Deletions

@@ -1,6 +1,7 @@
 //! Routes of a prefix.
 ghost use Rattle.std.specs.Prelude.{◌≡◌, Some, if◌then◌else◌};
 ghost use Rattle.std.specs.List.{list_any};
+ghost use Rattle.and_policy.specs.Deletions as deletions;
 ghost use Rattle.and_policy.specs.Logged.{entries_in, before, is_entry};
 ghost use Rattle.and_policy.specs.Logs as logs;
 ghost use Rattle.and_policy.specs.Matching as matching;
@@ -41,8 +42,16 @@ fn deletes(net: u32, number: u32, entry: Option<Entry>) -> bool
     }
 }
 
+// Whether an entry deletes the route. There is no need to look where none deletes a route of the network.
+fn is_deleted<T: Logged>(log: &[T], net: u32, number: u32, some: bool) -> bool
+    requires { some ≡ list_any (deletions.deletes_some_route net) (entries_in T.entry_of log.now) }
+    ensures { result ≡ list_any (logs.deletes_route net number) (entries_in T.entry_of log.now) }
+{
+    some && has_deletion(log, net, number)
+}
+
 // Whether an entry deletes the route.
-fn is_deleted<T: Logged>(log: &[T], net: u32, number: u32) -> bool
+fn has_deletion<T: Logged>(log: &[T], net: u32, number: u32) -> bool
     ensures { result ≡ list_any (logs.deletes_route net number) (entries_in T.entry_of log.now) }
 {
     let mut deleted = false;
@@ -54,22 +63,34 @@ fn is_deleted<T: Logged>(log: &[T], net: u32, number: u32) -> bool
     deleted
 }
 
+// Whether the entry deletes a route of the network.
+fn deletes_some(net: u32, entry: Option<Entry>) -> bool
+    ensures { result ≡ is_entry (deletions.deletes_some_route net) entry }
+{
+    match entry {
+        Some(Entry::DelRoute { net: n, .. }) => n == net,
+        _ => false,
+    }
+}
+
 // The route that decides, one item further to the front. A route counts only where no later entry deletes it.
 fn deciding_step<T: Logged>(
     address: u32,
     net: u32,
     item: &T,
     later: &[T],
+    some: bool,
     best: Option<Route>,
 ) -> Option<Route>
-    requires { best ≡ spec.deciding_route address (logs.routes (entries_in T.entry_of later.now) net) }
+    requires some { some ≡ list_any (deletions.deletes_some_route net) (entries_in T.entry_of later.now) }
+    requires best { best ≡ spec.deciding_route address (logs.routes (entries_in T.entry_of later.now) net) }
     ensures { result ≡ spec.deciding_route address (logs.routes (before (T.entry_of item.now) (entries_in T.entry_of later.now)) net) }
 {
     match item.entry() {
         Some(Entry::AddRoute { net: n, route })
             if n == net
                 && decides(address, &route, best)
-                && !is_deleted(later, net, route.number) => { Some(route) }
+                && !is_deleted(later, net, route.number, some) => { Some(route) }
         _ => best,
     }
 }
@@ -97,10 +118,12 @@ pub(crate) fn route_in<T: Logged>(log: &[T], net: u32, address: u32) -> Routing
     ensures { result ≡ spec.route (entries_in T.entry_of log.now) net address }
 {
     let mut best = None;
+    let mut some = false;
     let mut at = log.len();
     while at > 0 {
         at -= 1;
-        best = deciding_step(address, net, &log[at], &log[at + 1..], best);
+        best = deciding_step(address, net, &log[at], &log[at + 1..], some, best);
+        some = deletes_some(net, log[at].entry()) || some;
     }
     routing_by(net, best)
 }

@@ -2,6 +2,7 @@
 ghost use Rattle.std.specs.Prelude.{◌≡◌, ◌&&◌, Some, ◌∷◌, if◌then◌else◌};
 ghost use Rattle.std.specs.List.{list_any};
 ghost use Rattle.and_policy.specs.Egress as spec;
+ghost use Rattle.and_policy.specs.Deletions as deletions;
 ghost use Rattle.and_policy.specs.Logged.{entries_in, before, is_entry};
 ghost use Rattle.and_policy.specs.Logs as logs;
 ghost use Rattle.and_policy.specs.Matching as matching;
@@ -145,8 +146,16 @@ fn deletes(net: u32, number: u32, entry: Option<Entry>) -> bool
     }
 }
 
+// Whether an entry deletes the rule. There is no need to look where none deletes a rule of the network.
+fn is_deleted<T: Logged>(log: &[T], net: u32, number: u32, some: bool) -> bool
+    requires { some ≡ list_any (deletions.deletes_some_rule net) (entries_in T.entry_of log.now) }
+    ensures { result ≡ list_any (logs.deletes_rule net number) (entries_in T.entry_of log.now) }
+{
+    some && has_deletion(log, net, number)
+}
+
 // Whether an entry deletes the rule.
-fn is_deleted<T: Logged>(log: &[T], net: u32, number: u32) -> bool
+fn has_deletion<T: Logged>(log: &[T], net: u32, number: u32) -> bool
     ensures { result ≡ list_any (logs.deletes_rule net number) (entries_in T.entry_of log.now) }
 {
     let mut deleted = false;
@@ -158,6 +167,16 @@ fn is_deleted<T: Logged>(log: &[T], net: u32, number: u32) -> bool
     deleted
 }
 
+// Whether the entry deletes a rule of the network.
+fn deletes_some(net: u32, entry: Option<Entry>) -> bool
+    ensures { result ≡ is_entry (deletions.deletes_some_rule net) entry }
+{
+    match entry {
+        Some(Entry::DelRule { net: n, .. }) => n == net,
+        _ => false,
+    }
+}
+
 // The rule that decides, one item further to the front. A rule counts only where no later entry deletes it.
 fn deciding_step<T: Logged>(
     side: Side,
@@ -165,16 +184,18 @@ fn deciding_step<T: Logged>(
     net: u32,
     item: &T,
     later: &[T],
+    some: bool,
     best: Option<Rule>,
 ) -> Option<Rule>
-    requires { best ≡ spec.deciding_rule side tuple.now (logs.rules (entries_in T.entry_of later.now) net) }
+    requires some { some ≡ list_any (deletions.deletes_some_rule net) (entries_in T.entry_of later.now) }
+    requires best { best ≡ spec.deciding_rule side tuple.now (logs.rules (entries_in T.entry_of later.now) net) }
     ensures { result ≡ spec.deciding_rule side tuple.now (logs.rules (before (T.entry_of item.now) (entries_in T.entry_of later.now)) net) }
 {
     match item.entry() {
         Some(Entry::AddRule { net: n, rule })
             if n == net
                 && decides(side, tuple, &rule, best)
-                && !is_deleted(later, net, rule.number) => { Some(rule) }
+                && !is_deleted(later, net, rule.number, some) => { Some(rule) }
         _ => best,
     }
 }
@@ -184,10 +205,12 @@ pub(crate) fn verdict_in<T: Logged>(side: Side, tuple: &Tuple, log: &[T], net: u
     ensures { result ≡ spec.verdict side tuple.now (logs.rules (entries_in T.entry_of log.now) net) }
 {
     let mut best = None;
+    let mut some = false;
     let mut at = log.len();
     while at > 0 {
         at -= 1;
-        best = deciding_step(side, tuple, net, &log[at], &log[at + 1..], best);
+        best = deciding_step(side, tuple, net, &log[at], &log[at + 1..], some, best);
+        some = deletes_some(net, log[at].entry()) || some;
     }
     verdict_by(side, best)
 }

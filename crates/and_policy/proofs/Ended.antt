@@ -1,12 +1,11 @@
 -- An order that a later order for the same ends.
-use Rattle.std.proofs.Common.{◌≡◌, ℕ, Bool, true, false, not, ◌&&◌, ◌||◌, List, [], ◌∷◌, Option, refl, ap, sym, ◌∙◌, subst}
-use Rattle.std.specs.Prelude.{◌==◌}
-use Rattle.std.specs.List.{list_any, find}
+use Rattle.std.proofs.Common.{◌≡◌, Bool, true, false, ◌||◌, List, [], ◌∷◌, refl}
+use Rattle.std.specs.List.{list_any}
 use Rattle.and_policy.specs.declared.entry.Entry.{Entry}
 use Rattle.and_policy.specs.declared.entry.Op.{Op}
 use Rattle.and_policy.specs.declared.entry.Op.TheVariants as ops
 use Rattle.and_policy.specs.declared.entry.Order.{Order}
-use Rattle.and_policy.specs.Programmes.{orders_for, is_entry_of, ends, lives, living}
+use Rattle.and_policy.specs.Programmes.{orders_for, is_entry_of, ends, living}
 
 or_last : (a b c : Bool) → c ≡ true → (a || b || c) ≡ true
 or_last true b c h = refl

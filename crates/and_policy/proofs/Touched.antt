@@ -1,6 +1,5 @@
 -- The last operation that touches a network, one place at a time.
-use Rattle.std.proofs.Common.{◌≡◌, ℕ, zero, suc, ◌-◌, ◌<◌, true, false, List, refl, ap, sym, ◌∙◌, arith, sub-one}
-use Rattle.std.specs.Prelude.{if◌then◌else◌}
+use Rattle.std.proofs.Common.{◌≡◌, ℕ, zero, suc, ◌-◌, ◌<◌, true, false, List, ap, arith}
 use Rattle.and_policy.specs.declared.entry.Op.{Op}
 use Rattle.and_policy.specs.Programmes.{touched, touches}
 

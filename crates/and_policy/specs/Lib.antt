@@ -16,3 +16,4 @@ pub mod Indexes
 pub mod Logged
 pub mod Homes
 pub mod Deletions
+pub mod Steps

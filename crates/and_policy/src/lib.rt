@@ -25,3 +25,6 @@ pub use memory::NoMemory;
 pub use packet::{Fields, Skip, Tuple};
 pub use tables::{Batch, Tables};
 pub use underlay::{flow_hash, host_address, redirect_address, route_address};
+
+#[cfg(test)]
+mod tests;

@@ -1,11 +1,11 @@
 //! Offload orders of a programme.
 ghost use Rattle.std.specs.Prelude.{◌≡◌, ◌<◌, ◌==◌, ◌&&◌, ◌∷◌, Option, option_map};
 ghost use Rattle.std.specs.List.{find, list_any};
-ghost use Rattle.and_policy.specs.Logged.{entries_in, entry_of_op};
 ghost use Rattle.and_policy.specs.Egress.{egress};
 ghost use Rattle.and_policy.specs.Homes.{home_of};
 ghost use Rattle.and_policy.specs.Logs.{Vm, vm_of};
 ghost use Rattle.and_policy.specs.Programmes as spec;
+ghost use Rattle.and_policy.specs.Steps.{log_of, living_in, order_for};
 
 use crate::decision::{Dest, Exit, Leaving};
 use crate::entry::{Op, Order};
@@ -36,7 +36,7 @@ fn is_for(net: u32, ip: u32, op: &Op) -> bool
 
 // Whether the operation, which stands after the order among `ops`, ends it.
 fn ends(ops: &[Op], order: &Order, op: &Op) -> bool
-    ensures { result ≡ spec.ends (entries_in entry_of_op ops.now) order.now op.now }
+    ensures { result ≡ spec.ends (log_of ops.now) order.now op.now }
 {
     match op {
         Op::Entry(entry) => {
@@ -49,7 +49,7 @@ fn ends(ops: &[Op], order: &Order, op: &Op) -> bool
 
 // Whether some operation of `later` ends the order.
 fn is_ended(ops: &[Op], order: &Order, later: &[Op]) -> bool
-    ensures { result ≡ list_any (spec.ends (entries_in entry_of_op ops.now) order.now) later.now }
+    ensures { result ≡ list_any (spec.ends (log_of ops.now) order.now) later.now }
 {
     let mut ended = false;
     let mut at = later.len();
@@ -62,7 +62,7 @@ fn is_ended(ops: &[Op], order: &Order, later: &[Op]) -> bool
 
 /// Whether the order lives, `later` being what stands after it among `ops`.
 pub(crate) fn lives(ops: &[Op], order: &Order, later: &[Op]) -> bool
-    ensures { result ≡ spec.lives (entries_in entry_of_op ops.now) order.now later.now }
+    ensures { result ≡ spec.lives (log_of ops.now) order.now later.now }
 {
     !is_ended(ops, order, later) && now(ops) < order.until as usize
 }
@@ -79,9 +79,9 @@ struct Search {
 // The search, one operation further to the front. Only the last of the orders can live.
 fn search_step(ops: &[Op], net: u32, ip: u32, op: &Op, later: &[Op], search: Search) -> Search
     requires seen { search.seen ≡ list_any (spec.orders_for net ip) later.now }
-    requires live { search.live ≡ find (λ order. (order.net == net) && (order.ip == ip)) (spec.living (entries_in entry_of_op ops.now) later.now) }
+    requires live { search.live ≡ order_for net ip (living_in ops.now later.now) }
     ensures seen { result.seen ≡ list_any (spec.orders_for net ip) (op.now ∷ later.now) }
-    ensures live { result.live ≡ find (λ order. (order.net == net) && (order.ip == ip)) (spec.living (entries_in entry_of_op ops.now) (op.now ∷ later.now)) }
+    ensures live { result.live ≡ order_for net ip (living_in ops.now (op.now ∷ later.now)) }
 {
     match op {
         Op::Offload(order) if order.net == net && order.ip == ip => {
@@ -101,7 +101,7 @@ fn search_step(ops: &[Op], net: u32, ip: u32, op: &Op, later: &[Op], search: Sea
 
 /// The live order for this network and address.
 pub(crate) fn live_in(ops: &[Op], net: u32, ip: u32) -> Option<Order>
-    ensures { result ≡ find (λ order. (order.net == net) && (order.ip == ip)) (spec.living (entries_in entry_of_op ops.now) ops.now) }
+    ensures { result ≡ order_for net ip (living_in ops.now ops.now) }
 {
     let mut search = Search {
         seen: false,
@@ -156,7 +156,9 @@ fn own_net(home: Option<Home>) -> u32
 /// What the operations say of a packet of this VM, with this many gateways.
 pub(crate) fn leaving_in(gateways: u32, ops: &[Op], vm: u32, tuple: &Tuple) -> Leaving
     requires { 0 < gateways }
-    ensures { result ≡ spec.leaving_by (egress (entries_in entry_of_op ops.now) vm tuple.now) (spec.dest_by gateways tuple.now (find (λ order. (order.net == spec.own_net (vm_of (entries_in entry_of_op ops.now) vm)) && (order.ip == tuple.now.destination)) (spec.living (entries_in entry_of_op ops.now) ops.now))) }
+    ensures { let own = spec.own_net (vm_of (log_of ops.now) vm) in
+        let order = order_for own tuple.now.destination (living_in ops.now ops.now) in
+        result ≡ spec.leaving_by (egress (log_of ops.now) vm tuple.now) (spec.dest_by gateways tuple.now order) }
 {
     let exit = egress_in(ops, vm, tuple);
     let net = own_net(find_home(ops, vm));

@@ -6,6 +6,7 @@ ghost use Rattle.and_policy.specs.Logged.{entries_in, before, is_entry};
 ghost use Rattle.and_policy.specs.Logs as logs;
 ghost use Rattle.and_policy.specs.Matching as matching;
 ghost use Rattle.and_policy.specs.Routes as spec;
+ghost use Rattle.and_policy.specs.Steps as steps;
 
 use crate::decision::{Name, Routing};
 use crate::entry::{Entry, Route, Target};
@@ -21,7 +22,7 @@ fn is_before(a: &Route, b: &Route) -> bool
 
 // Whether the route decides in place of the best of those behind it.
 fn decides(address: u32, route: &Route, best: Option<Route>) -> bool
-    ensures { (if result then Some route.now else best) ≡ (if matching.holds route.now.prefix address then Some (matching.better spec.route_before route.now best) else best) }
+    ensures { (if result then Some route.now else best) ≡ steps.with_route address route.now best }
 {
     if !holds(&route.prefix, address) {
         return false;
@@ -84,7 +85,8 @@ fn deciding_step<T: Logged>(
 ) -> Option<Route>
     requires some { some ≡ list_any (deletions.deletes_some_route net) (entries_in T.entry_of later.now) }
     requires best { best ≡ spec.deciding_route address (logs.routes (entries_in T.entry_of later.now) net) }
-    ensures { result ≡ spec.deciding_route address (logs.routes (before (T.entry_of item.now) (entries_in T.entry_of later.now)) net) }
+    ensures { let log = before (T.entry_of item.now) (entries_in T.entry_of later.now) in
+        result ≡ spec.deciding_route address (logs.routes log net) }
 {
     match item.entry() {
         Some(Entry::AddRoute { net: n, route })

@@ -6,6 +6,7 @@ ghost use Rattle.and_policy.specs.Deletions as deletions;
 ghost use Rattle.and_policy.specs.Logged.{entries_in, before, is_entry};
 ghost use Rattle.and_policy.specs.Logs as logs;
 ghost use Rattle.and_policy.specs.Matching as matching;
+ghost use Rattle.and_policy.specs.Steps as steps;
 
 use crate::decision::{Name, Verdict};
 use crate::entry::{Entry, Prefix, Rule, Side};
@@ -74,7 +75,7 @@ fn is_before(a: &Rule, b: &Rule) -> bool
 
 // Whether the rule decides in place of the best of those behind it.
 fn decides(side: Side, tuple: &Tuple, rule: &Rule, best: Option<Rule>) -> bool
-    ensures { (if result then Some rule.now else best) ≡ (if matching.is_side rule.now.side side && matching.matches tuple.now rule.now then Some (matching.better spec.rule_before rule.now best) else best) }
+    ensures { (if result then Some rule.now else best) ≡ steps.with_rule side tuple.now rule.now best }
 {
     if !(is_side(rule.side, side) && matches(tuple, rule)) {
         return false;
@@ -189,7 +190,8 @@ fn deciding_step<T: Logged>(
 ) -> Option<Rule>
     requires some { some ≡ list_any (deletions.deletes_some_rule net) (entries_in T.entry_of later.now) }
     requires best { best ≡ spec.deciding_rule side tuple.now (logs.rules (entries_in T.entry_of later.now) net) }
-    ensures { result ≡ spec.deciding_rule side tuple.now (logs.rules (before (T.entry_of item.now) (entries_in T.entry_of later.now)) net) }
+    ensures { let log = before (T.entry_of item.now) (entries_in T.entry_of later.now) in
+        result ≡ spec.deciding_rule side tuple.now (logs.rules log net) }
 {
     match item.entry() {
         Some(Entry::AddRule { net: n, rule })

@@ -1,8 +1,8 @@
 //! What touches a network: its entries, its orders, and what ends its orders.
 ghost use Rattle.std.specs.Prelude.{◌≡◌, ◌<◌, ◌≤◌, ◌==◌, ◌&&◌, ◌||◌, ◌∷◌, ◌-◌, not, length, slice_get};
 ghost use Rattle.std.specs.List.{list_any};
-ghost use Rattle.and_policy.specs.Logged.{entries_in, entry_of_op};
 ghost use Rattle.and_policy.specs.Programmes as spec;
+ghost use Rattle.and_policy.specs.Steps.{log_of, living_in, is_one_gone};
 
 use crate::entry::{Op, Order};
 use crate::plain::orders::{is_net, lives};
@@ -10,7 +10,7 @@ use crate::plain::vms::net_of;
 
 // Whether the operation, one of `ops`, is an entry of the network or an order with it as source.
 fn is_of(ops: &[Op], net: u32, op: &Op) -> bool
-    ensures { result ≡ (spec.is_entry_of (entries_in entry_of_op ops.now) net op.now || spec.is_order_of net op.now) }
+    ensures { result ≡ (spec.is_entry_of (log_of ops.now) net op.now || spec.is_order_of net op.now) }
 {
     match op {
         Op::Entry(entry) => is_net(net_of(ops, entry), net),
@@ -31,8 +31,8 @@ fn is_same(a: &Order, b: &Order) -> bool
 
 // Whether the order is the operation and lives, `later` being what stands after it among `ops`; or else as it was found.
 fn living_step(ops: &[Op], order: &Order, op: &Op, later: &[Op], found: bool) -> bool
-    requires { found ≡ list_any (spec.same_order order.now) (spec.living (entries_in entry_of_op ops.now) later.now) }
-    ensures { result ≡ list_any (spec.same_order order.now) (spec.living (entries_in entry_of_op ops.now) (op.now ∷ later.now)) }
+    requires { found ≡ list_any (spec.same_order order.now) (living_in ops.now later.now) }
+    ensures { result ≡ list_any (spec.same_order order.now) (living_in ops.now (op.now ∷ later.now)) }
 {
     match op {
         Op::Offload(other) if is_same(order, other) && lives(ops, other, later) => true,
@@ -42,7 +42,7 @@ fn living_step(ops: &[Op], order: &Order, op: &Op, later: &[Op], found: bool) ->
 
 // Whether the order lives among the operations.
 fn is_living(ops: &[Op], order: &Order) -> bool
-    ensures { result ≡ list_any (spec.same_order order.now) (spec.living (entries_in entry_of_op ops.now) ops.now) }
+    ensures { result ≡ list_any (spec.same_order order.now) (living_in ops.now ops.now) }
 {
     let mut found = false;
     let mut at = ops.len();
@@ -55,8 +55,8 @@ fn is_living(ops: &[Op], order: &Order) -> bool
 
 // Whether the operation is an order of the network that lives among `earlier` and not among `until`; or else as it was found.
 fn ending_step(earlier: &[Op], until: &[Op], net: u32, op: &Op, later: &[Op], found: bool) -> bool
-    requires { found ≡ list_any (λ order. (order.net == net) && not (list_any (spec.same_order order) (spec.living (entries_in entry_of_op until.now) until.now))) (spec.living (entries_in entry_of_op earlier.now) later.now) }
-    ensures { result ≡ list_any (λ order. (order.net == net) && not (list_any (spec.same_order order) (spec.living (entries_in entry_of_op until.now) until.now))) (spec.living (entries_in entry_of_op earlier.now) (op.now ∷ later.now)) }
+    requires { found ≡ is_one_gone net (living_in earlier.now later.now) (living_in until.now until.now) }
+    ensures { result ≡ is_one_gone net (living_in earlier.now (op.now ∷ later.now)) (living_in until.now until.now) }
 {
     match op {
         Op::Offload(order)
@@ -67,7 +67,7 @@ fn ending_step(earlier: &[Op], until: &[Op], net: u32, op: &Op, later: &[Op], fo
 
 // Whether some order of the network lives among `earlier` and not among `until`.
 fn ends_order(earlier: &[Op], until: &[Op], net: u32) -> bool
-    ensures { result ≡ list_any (λ order. (order.net == net) && not (list_any (spec.same_order order) (spec.living (entries_in entry_of_op until.now) until.now))) (spec.living (entries_in entry_of_op earlier.now) earlier.now) }
+    ensures { result ≡ is_one_gone net (living_in earlier.now earlier.now) (living_in until.now until.now) }
 {
     let mut found = false;
     let mut at = earlier.len();
@@ -83,7 +83,8 @@ fn ends_order(earlier: &[Op], until: &[Op], net: u32) -> bool
 fn is_own(ops: &[Op], place: usize, net: u32) -> bool
     requires first { 0 < place }
     requires last { place ≤ length ops.now }
-    ensures { result ≡ spec.is_some_and (λ op. spec.is_entry_of (spec.prefix ops.now place) net op || spec.is_order_of net op) (slice_get ops.now (place - 1)) }
+    ensures { let k = spec.prefix ops.now place in
+        result ≡ spec.is_some_and (λ op. spec.is_entry_of k net op || spec.is_order_of net op) (slice_get ops.now (place - 1)) }
 {
     match ops.get(place - 1) {
         Some(op) => is_of(&ops[..place], net, op),

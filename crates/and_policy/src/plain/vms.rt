@@ -100,7 +100,8 @@ pub(crate) struct Home {
 // The live VM of this number, one item further to the front.
 fn home_step<T: Logged>(vm: u32, item: &T, later: &[T], found: Option<Home>) -> Option<Home>
     requires { found ≡ option_map home_of (logs.vm_of (entries_in T.entry_of later.now) vm) }
-    ensures { result ≡ option_map home_of (logs.vm_of (before (T.entry_of item.now) (entries_in T.entry_of later.now)) vm) }
+    ensures { let log = before (T.entry_of item.now) (entries_in T.entry_of later.now) in
+        result ≡ option_map home_of (logs.vm_of log vm) }
 {
     match item.entry() {
         Some(Entry::AddVm { vm: v, net, ip, .. }) if v == vm && !is_removed(later, v) => Some(Home {
@@ -134,7 +135,8 @@ pub(crate) fn owner_place<T: Logged>(log: &[T], net: u32, address: u32) -> Optio
 
 // The network of the VM, as its entry added it, one item further to the front.
 fn net_step(vm: u32, entry: Option<Entry>, found: Option<u32>) -> Option<u32>
-    ensures { (k : List Entry) → found ≡ programmes.net_of_vm k vm → result ≡ programmes.net_of_vm (before entry k) vm }
+    ensures { (k : List Entry) → found ≡ programmes.net_of_vm k vm
+        → result ≡ programmes.net_of_vm (before entry k) vm }
 {
     match entry {
         Some(Entry::AddVm { vm: v, net, .. }) if v == vm => Some(net),

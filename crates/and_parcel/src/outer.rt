@@ -99,6 +99,7 @@ fn outer_of(bytes: &[u8]) -> Outer
 /// The bytes are IPv4 without options (RFC 791, section 3.1), UDP (RFC 768), VXLAN (RFC 7348, section 5) and a frame.
 /// A UDP checksum of 0 says that there is none. Type of service, identification, fragmentation, and all VXLAN bits but
 /// the I flag and the VNI are not looked at.
+#[tactic(auto, unfolding(crate::specs::Reading::reading))]
 pub fn read_outer(bytes: &[u8]) -> Result<Outer, WrapFault>
     ensures { result ≡ reading bytes.now }
 {

@@ -80,7 +80,7 @@ impl Parcel {
         // What was written is read again.
         ensures unwraps { reading (wire_of self.new) ≡ Ok outer.now }
     {
-        write_header(&mut self.bytes, outer);
+        write_header(&mut self.bytes, *outer);
     }
 
     /// What the outer headers say, or the first check that they fail: [`read_outer`] of [`Parcel::wire`].

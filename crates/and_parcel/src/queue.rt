@@ -16,7 +16,7 @@ pub struct ParcelQueue {
 }
 
 impl Model for ParcelQueue {
-    ghost use Rattle.std.specs.Prelude.{◌≤◌, length};
+    ghost use Rattle.std.specs.Prelude.{◌≤◌, ◌<◌, ◌^◌, length};
     ghost use Rattle.std.specs.VecDeque.{deque_capacity};
     ghost use Rattle.and_parcel.specs.Parcels.{QueueView};
 
@@ -24,7 +24,7 @@ impl Model for ParcelQueue {
 
     ghost view = { λ q. record { capacity = q.capacity; parcels = q.parcels.items } };
 
-    ghost invariant = { λ q. (length q.parcels.items ≤ q.capacity) × (q.capacity ≤ deque_capacity q.parcels) };
+    ghost invariant = { λ q. (length q.parcels.items ≤ q.capacity) × (q.capacity ≤ deque_capacity q.parcels) × (q.capacity < 2 ^ 32) };
 }
 
 impl ParcelQueue {

@@ -14,6 +14,8 @@ mod outer;
 mod parcel;
 mod queue;
 mod sum;
+#[cfg(test)]
+mod tests;
 mod underlay;
 
 pub use and_policy::NoMemory;

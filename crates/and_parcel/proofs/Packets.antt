@@ -1,12 +1,12 @@
 -- What was wrapped is read again.
-use Rattle.std.proofs.Common.{◌≡◌, ℕ, zero, suc, ◌+◌, ◌-◌, ◌*◌, ◌/◌, ◌%◌, ◌^◌, ◌<◌, ◌≤◌, Bool, true, false, eqb, ltb, List, [], ◌∷◌, ◌++◌, length, take, drop, Option, None, Result, Ok, refl, sym, ap, ◌∙◌, arith, eq-eqb}
-use Rattle.std.specs.Prelude.{not, ◌||◌, ◌&&◌, slice_index}
+use Rattle.std.proofs.Common.{◌≡◌, ℕ, ◌+◌, ◌-◌, ◌/◌, ◌%◌, ◌^◌, ◌<◌, ◌≤◌, true, false, eqb, ltb, List, [], ◌∷◌, length, take, Option, None, Ok, refl, sym, ap, ◌∙◌, arith, eq-eqb}
+use Rattle.std.specs.Prelude.{not, slice_index}
 use Rattle.std.specs.Int.{byte_at}
 use Rattle.std.proofs.lemmas.Bool.{le-ltb}
 use Rattle.byteorder.specs.Numbers.{big_number-reads_back}
 use Rattle.and_policy.specs.Checks.{first_failing, unless}
 use Rattle.and_policy.specs.Numbers.{number_from, bytes_of}
-use Rattle.and_policy.specs.Outer.{Envelope, words_sum, folded, ones_sum, ip_header, udp_header, vxlan_header, outer_packet}
+use Rattle.and_policy.specs.Outer.{Envelope, words_sum, ones_sum, ip_header, outer_packet}
 use Rattle.and_parcel.specs.declared.outer.Outer.{Outer}
 use Rattle.and_parcel.specs.declared.outer.WrapFault.{WrapFault}
 use Rattle.and_parcel.specs.Parcels.{envelope}

@@ -1,5 +1,5 @@
 -- Parcels and queues as contracts see them.
-use Rattle.std.specs.Prelude.{ℕ, Bool, List, ◌++◌}
+use Rattle.std.specs.Prelude.{ℕ, List, ◌++◌}
 use Rattle.and_policy.specs.Outer.{Envelope}
 use Rattle.and_parcel.specs.declared.outer.Outer.{Outer}
 

@@ -1,4 +1,4 @@
-use Rattle.std.proofs.Common.{ℕ, ◌≡◌, ◌++◌, ◌-◌, length, drop, ap, sym, ◌∙◌, refl, arith, length-append, length-drop}
+use Rattle.std.proofs.Common.{ℕ, ◌++◌, ◌-◌, length, drop, ap, ◌∙◌, refl, arith, length-drop}
 use Rattle.and_policy.specs.Outer.{ones_sum, ip_header, udp_header, vxlan_header}
 use Rattle.and_parcel.specs.Parcels.{envelope}
 use Rattle.and_parcel.specs.Reading.{reading}

@@ -1,4 +1,4 @@
-use Rattle.std.proofs.Common.{◌≡◌, ◌-◌}
+use Rattle.std.proofs.Common.{◌≡◌}
 use Rattle.and_policy.specs.Outer.{folded}
 use Rattle.and_parcel.proofs.sum.folded.Given as goal
 

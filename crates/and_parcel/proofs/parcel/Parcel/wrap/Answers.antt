@@ -1,4 +1,4 @@
-use Rattle.std.proofs.Common.{◌≡◌, ap, sym, ◌∙◌, arith}
+use Rattle.std.proofs.Common.{ap, ◌∙◌, arith}
 use Rattle.std.proofs.lemmas.List.{take-append-drop, with_items_is}
 use Rattle.and_parcel.specs.Reading.{reading}
 use Rattle.and_parcel.proofs.parcel.Parcel.wrap.Goals as goal

@@ -1,0 +1,16 @@
+pub mod Places
+pub mod Flow
+pub mod Programming
+pub mod Ports
+pub mod Usage
+pub mod State
+pub mod Legal
+pub mod Run
+pub mod Just
+pub mod Fresh
+pub mod OuterPackets
+pub mod Complete
+pub mod Ordered
+pub mod Script
+pub mod Sound
+pub mod Planned

@@ -11,3 +11,5 @@ pub mod Ingress
 pub mod FlowHash
 pub mod Programmes
 pub mod Outer
+pub mod LogView
+pub mod Indexes

@@ -7,13 +7,18 @@
 
 mod decision;
 mod entry;
+mod index;
+mod log;
 mod memory;
 mod packet;
+mod port;
 
 pub use decision::{
     Decision, Dest, Exit, GateDecision, Landing, Leaving, Located, Name, Outcome, Routed, Routing,
     Verdict, Way,
 };
 pub use entry::{Entry, EntryFault, FlowKey, Op, Order, Prefix, Route, Rule, Side, Target};
+pub use log::Log;
 pub use memory::NoMemory;
 pub use packet::{Fields, Skip, Tuple};
+pub use port::{Port, UsageKey};

@@ -12,11 +12,11 @@ use Rattle.serde_json.specs.Find.{as_number, as_u64, as_str, as_bool, as_array}
 use Rattle.and_script.specs.Words.{ip_of, mac_of, prefix_of, is_name, node_of}
 
 pub data Form : Type 0 where
-  Whole : (low high : ℕ) → Form      -- a whole number in this range
+  Whole : (low high : ℕ) → Form  -- a whole number in this range
   VmName : Form
   Mac : Form
   Ip : Form
-  Cidr : Form                        -- an address prefix
+  Cidr : Form  -- an address prefix
   Protocol : Form
   Ports : Form
   OnSide : Form
@@ -25,7 +25,7 @@ pub data Form : Type 0 where
   TargetKind : Form
   NodeName : Form
   HoldKind : Form
-  Script : Form                      -- a list
+  Script : Form  -- a list
 
 -- the target of a route, before its peer is known
 pub data Toward : Type 0 where
@@ -35,14 +35,14 @@ pub data Toward : Type 0 where
 
 -- what a field gives
 pub data Given : Type 0 where
-  Number : ℕ → Given                 -- of Whole, Mac, Ip
-  Absent : Given                     -- of a field that may be left out and was
+  Number : ℕ → Given  -- of Whole, Mac, Ip
+  Absent : Given  -- of a field that may be left out and was
   Named : List ℕ → Given
   Within : Prefix → Given
   OfProtocol : Option ℕ → Given
   Between : (low high : ℕ) → Given
   Sided : Side → Given
-  Allows : Bool → Given              -- of Action and Truth
+  Allows : Bool → Given  -- of Action and Truth
   Going : Toward → Given
   At : Node → Given
   Holding : What → Given

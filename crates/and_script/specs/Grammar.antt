@@ -168,9 +168,19 @@ item_with names RemoveVm (Named vm ∷ []) = items.Entry (entries.RemoveVm (numb
 item_with names AddRule (Number net ∷ Number number ∷ Number priority ∷ Sided side ∷ Allows allow ∷ OfProtocol protocol ∷ Within source
     ∷ Within destination ∷ Between source_low source_high ∷ Between destination_low destination_high ∷ Allows sealed ∷ []) =
     items.Entry (entries.AddRule net (record {
-      number = number; priority = priority; side = side; allow = allow; sealed = sealed; protocol = protocol;
-      source = source; destination = destination; source_low = source_low; source_high = source_high;
-      destination_low = destination_low; destination_high = destination_high }))
+      number = number;
+      priority = priority;
+      side = side;
+      allow = allow;
+      sealed = sealed;
+      protocol = protocol;
+      source = source;
+      destination = destination;
+      source_low = source_low;
+      source_high = source_high;
+      destination_low = destination_low;
+      destination_high = destination_high;
+    }))
 item_with names DelRule (Number net ∷ Number number ∷ []) = items.Entry (entries.DelRule net number)
 item_with names AddRoute (Number net ∷ Number number ∷ Within prefix ∷ Going toward ∷ values) =
     items.Entry (entries.AddRoute net (record { number = number; prefix = prefix; target = target_by toward values }))
@@ -197,8 +207,16 @@ scenario_by (Number hosts ∷ Number gateways ∷ Number workers ∷ Number hop_
     ∷ Number threshold ∷ Number life ∷ Listed script ∷ []) =
     if nat_lt 65536 (item_count script) then Err (Refused Limit (Top (Of (codes "script"))))
     else (items_of 0 script >>= λ ws. Ok (scenario_with (record {
-      hosts = hosts; gateways = gateways; workers = workers; hop_limit = hop_limit; out_queue = out_queue; wire_queue = wire_queue;
-      seal_queue = seal_queue; threshold = threshold; life = life }) ws))
+      hosts = hosts;
+      gateways = gateways;
+      workers = workers;
+      hop_limit = hop_limit;
+      out_queue = out_queue;
+      wire_queue = wire_queue;
+      seal_queue = seal_queue;
+      threshold = threshold;
+      life = life;
+    }) ws))
 scenario_by _ = Err (Refused Field (Top Itself))
 
 abbrev pub at_top : Result (List Given) Refusal → Result (List Given) Fault

@@ -1,0 +1,101 @@
+-- Files and a sink that are kept in memory, as contracts see them.
+use Rattle.std.specs.Prelude.{ℕ, ◌+◌, ◌-◌, ◌==◌, ◌||◌, nat_lt, List, [], ◌∷◌, ◌++◌, length, Option, Some, None, is_none, Bool, true, false, if◌then◌else◌}
+use Rattle.std.specs.List.{list_any}
+use Rattle.std.specs.Option.{option_or}
+use Rattle.std.specs.Str.{bytes_eq}
+use Rattle.and_outside.specs.Causes.{raised}
+
+-- a name, and what it was given to hold
+pub record Kept : Type 0 where
+  pub name : List ℕ
+  pub bytes : List ℕ
+
+-- the last content of the name, and None where the name is not there
+abbrev pub content_of : List Kept → List ℕ → Option (List ℕ)
+content_of [] name = None
+content_of (k ∷ ks) name = option_or (content_of ks name) (if bytes_eq k.name name then Some k.bytes else None)
+
+-- files in memory: what is there, the oldest first, the numbers of the calls that fail, the number
+-- of the next call, the places and bytes that are left, and the counts
+pub record Shelf : Type 0 where
+  pub kept : List Kept
+  pub failing : List ℕ
+  pub next : ℕ
+  pub places : ℕ
+  pub room : ℕ
+  pub read_faults : ℕ
+  pub write_faults : ℕ
+  pub taken : ℕ
+
+-- nothing is there yet
+abbrev pub empty_shelf : ℕ → ℕ → List ℕ → Shelf
+empty_shelf places room failing =
+    record { kept = []; failing = failing; next = 0; places = places; room = room; read_faults = 0; write_faults = 0; taken = 0 }
+
+-- the number is in the list
+abbrev pub is_listed : List ℕ → ℕ → Bool
+is_listed failing number = list_any (λ n. n == number) failing
+
+abbrev pub is_empty : {X : Type 0} → List X → Bool
+is_empty [] = true
+is_empty (x ∷ xs) = false
+
+-- one more content, which uses a place and the bytes of its name and content
+abbrev pub with_file : Shelf → List ℕ → List ℕ → Shelf
+with_file s name bytes = record s {
+  kept = s.kept ++ record { name = name; bytes = bytes } ∷ [];
+  places = s.places - 1;
+  room = s.room - (length name + length bytes);
+}
+
+-- the next call is counted
+abbrev pub counted : Shelf → Shelf
+counted s = record s { next = raised 1 s.next }
+
+-- the next read of the name fails
+abbrev pub read_fails : Shelf → List ℕ → Bool
+read_fails s name = is_listed s.failing s.next || is_none (content_of s.kept name)
+
+-- after a read that fails
+abbrev pub after_failed_read : Shelf → Shelf
+after_failed_read s = record s { next = raised 1 s.next; read_faults = raised 1 s.read_faults }
+
+-- after a read that took n bytes
+abbrev pub after_read : Shelf → ℕ → Shelf
+after_read s n = record s { next = raised 1 s.next; taken = raised n s.taken }
+
+-- the next write, of the bytes to the name, fails
+abbrev pub write_fails : Shelf → List ℕ → List ℕ → Bool
+write_fails s name bytes =
+    is_listed s.failing s.next || (s.places == 0 || nat_lt s.room (length name + length bytes))
+
+-- after the next write
+abbrev pub after_write : Shelf → List ℕ → List ℕ → Shelf
+after_write s name bytes =
+    if write_fails s name bytes
+    then record s { next = raised 1 s.next; write_faults = raised 1 s.write_faults }
+    else record (with_file s name bytes) { next = raised 1 s.next }
+
+-- a sink in memory: what was written, the numbers of the puts that fail, the number of the next put,
+-- the bytes that are left, and the count
+pub record Roll : Type 0 where
+  pub bytes : List ℕ
+  pub failing : List ℕ
+  pub next : ℕ
+  pub room : ℕ
+  pub faults : ℕ
+
+-- nothing was written yet
+abbrev pub empty_roll : ℕ → List ℕ → Roll
+empty_roll room failing = record { bytes = []; failing = failing; next = 0; room = room; faults = 0 }
+
+-- the next put of the bytes fails
+abbrev pub put_fails : Roll → List ℕ → Bool
+put_fails r bytes = is_listed r.failing r.next || nat_lt r.room (length bytes)
+
+-- after the next put
+abbrev pub after_put : Roll → List ℕ → Roll
+after_put r bytes =
+    if put_fails r bytes
+    then record r { next = raised 1 r.next; faults = raised 1 r.faults }
+    else record r { next = raised 1 r.next; bytes = r.bytes ++ bytes; room = r.room - length bytes }

@@ -1,0 +1,30 @@
+//! The outside of the product: files by name, sinks of bytes, and a gate that the thread loop calls.
+//!
+//! `Files` and `Sink` promise that each failure shows in a count, and, where an implementation
+//! tells contents, what stands in each file and what was written. `MemoryFiles` and `MemorySink`
+//! tell everything and fail where they are asked to. `RealFiles` and `RealSink` are the trusted
+//! edge: they loop over the system's reads and writes, count failures and tell nothing of contents.
+//! The crate stands on std alone.
+#![tactic(auto)]
+
+mod answer;
+mod files;
+mod gate;
+mod memory_files;
+mod memory_sink;
+mod numbers;
+mod place;
+mod real_files;
+mod real_sink;
+mod sink;
+#[cfg(test)]
+mod tests;
+
+pub use answer::{Failed, NoMemory, ReadAnswer};
+pub use files::Files;
+pub use gate::{Gate, OpenGate};
+pub use memory_files::MemoryFiles;
+pub use memory_sink::MemorySink;
+pub use real_files::RealFiles;
+pub use real_sink::RealSink;
+pub use sink::Sink;

@@ -1,0 +1,54 @@
+//! A sink over a writer of the system.
+
+ghost use Rattle.std.specs.Prelude.{◌≡◌};
+
+use crate::answer::Failed;
+use crate::sink::Sink;
+use std::io::Write;
+
+/// Puts into a writer that keeps no bytes back, as standard output. Of what was written nothing is
+/// told.
+#[derive(Drop)]
+pub struct RealSink<W: Write + Drop> {
+    writer: W,
+    faults: u64,
+}
+
+impl<W: Write + Drop> RealSink<W> {
+    /// A sink over this writer, with its count at 0.
+    pub fn make(writer: W) -> RealSink<W> {
+        RealSink { writer, faults: 0 }
+    }
+
+    /// Writes all bytes, and says whether that was done. A write that takes nothing of what is left
+    /// is a failure.
+    fn write_all(&mut self, bytes: &[u8]) -> bool
+        ensures { self.new.faults ≡ self.old.faults }
+    {
+        let mut at = 0;
+        while at < bytes.len() {
+            match self.writer.write(&bytes[at..]) {
+                Ok(0) => return false,
+                Ok(count) => at += count,
+                Err(_) => return false,
+            }
+        }
+        true
+    }
+}
+
+impl<W: Write + Drop> Sink for RealSink<W> {
+    ghost use Rattle.std.specs.Prelude.{None};
+
+    ghost faults = { λ s. s.faults };
+
+    ghost written = { λ _. None };
+
+    fn put(&mut self, bytes: &[u8]) -> Result<(), Failed> {
+        if self.write_all(bytes) {
+            return Ok(());
+        }
+        self.faults = self.faults.saturating_add(1);
+        Err(Failed)
+    }
+}

@@ -1,0 +1,2 @@
+//! The top call: from command words, a scenario and a capture to the report.
+#![tactic(auto)]

@@ -5,24 +5,24 @@
 //! neither copy the frame nor take memory. [`read_outer`] tells the first check that bytes fail as an outer packet. A
 //! [`ParcelQueue`] takes all its memory when it is made.
 //!
-//! It stands on `and_policy`, whose definitions of frames, outer packets and underlay addresses it computes, and on
+//! It stands on `and_policy`, whose definitions of frames and outer packets it computes, and on
 //! `byteorder`.
 #![tactic(auto)]
 
 mod header;
 mod outer;
 mod parcel;
+mod port;
 mod queue;
 mod sum;
 #[cfg(test)]
 mod tests;
-mod underlay;
 
 pub use and_policy::NoMemory;
 pub use outer::{Outer, WrapFault, read_outer};
 pub use parcel::Parcel;
+pub use port::entropy_port;
 pub use queue::ParcelQueue;
-pub use underlay::{entropy_port, host_address, redirect_address, route_address};
 
 /// The bytes before the frame: 20 of IPv4, 8 of UDP and 8 of VXLAN.
 pub const OUTER_LEN: usize = 36;

@@ -1,4 +1,5 @@
 use super::*;
+use and_policy::{host_address, route_address};
 use std::test::*;
 
 /// A TCP segment without payload from 10.0.0.1 port 4096 to 10.0.0.2 port 80.
@@ -111,11 +112,4 @@ fn queue_of_one(rt: HostRuntime) -> Result<(), Fail> {
     assert_eq!(rt; queue.pop().map(|parcel| parcel.packet()), Some(0));
     assert!(rt; queue.pop().is_none());
     Ok(())
-}
-
-#[test]
-fn addresses(rt: HostRuntime) {
-    assert_eq!(rt; host_address(63), 0xac10_3f01);
-    assert_eq!(rt; route_address(7), 0xac11_0701);
-    assert_eq!(rt; redirect_address(7), 0xac11_0702);
 }

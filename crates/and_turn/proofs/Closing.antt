@@ -14,7 +14,7 @@ use Rattle.and_turn.specs.declared.view.Stage.{Stage}
 use Rattle.and_turn.specs.declared.view.Stage.TheVariants.{Out, Waits, Has}
 use Rattle.and_turn.specs.declared.view.View.{View}
 use Rattle.and_turn.specs.Tales.{IsPrefix, own}
-use Rattle.and_turn.specs.Turns.{IsAt, HasNone, stages, facts, seats, Sits, NoOther, Kept, IsHome, IsAway, Turned, opening_view}
+use Rattle.and_turn.specs.Turns.{IsAt, HasNone, stages, facts, seats, Sits, NoOther, Kept, IsHome, IsAway, Turned, Sat, joined_view, opening_view}
 use Rattle.and_turn.proofs.Keeping.{Rule, known_at, stage_at}
 use Rattle.and_turn.proofs.Knowing.{seats_two}
 use Rattle.and_turn.proofs.Places.{same_place}
@@ -75,3 +75,11 @@ module _ {S L R : Type 0} (lines_of : S → List L) (root_of : S → R) (seat_of
     named = All-nil (λ (l : L). seat_of l < 1);
     merged = λ x there. let kept : Kept seat_of k.merged = record { before = prefix_self []; joined = prefix_self []; last = refl; first = refl; earlier = λ n h. refl } in subst (λ (z : Known S L). Kept seat_of z.merged) (only k x 0 there.0).1 kept;
   }
+
+-- what a look after a join tells: the lines of each number that was joined before are as they were
+pub joined_ended : {S L : Type 0} (seat_of : L → ℕ) (v w : View S L) (held : List (ℕ × Option S)) (m m' : Sat S L) → m ≡ (joined_view v w, held) → m' ≡ m
+    → (m.0.known.live ≡ true → m.0.known.number ≡ 0 → Kept seat_of m.0.known.merged) → v.known.live ≡ true → v.known.number ≡ 0
+    → (n : ℕ) → Contains v.known.ended n → own seat_of m'.0.known.seen n ≡ own seat_of v.known.seen n
+joined_ended {S = S} {L = L} seat_of v w held m m' is same told live zero_is n among = let kept : Kept seat_of (joined_view v w).known.merged = subst (λ (z : Sat S L). Kept seat_of z.0.known.merged) is
+    (told (ap (λ (z : Sat S L). z.0.known.live) is ∙ live) (ap (λ (z : Sat S L). z.0.known.number) is ∙ zero_is)) in
+    ap (λ (z : Sat S L). own seat_of z.0.known.seen n) (same ∙ is) ∙ kept.earlier n among

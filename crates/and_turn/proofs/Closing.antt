@@ -1,6 +1,6 @@
 -- How the table begins, and what it has at its end.
-use Rattle.std.proofs.Common.{◌≡◌, ◌≢◌, ◌⊎◌, inl, ⊎_elim, ℕ, zero, suc, ◌+◌, ◌%◌, ◌^◌, ◌<◌, ◌≤◌, Bool, true, false, List, [], ◌∷◌, length, sym, refl, ap, ◌∙◌, subst, arith, Option, Some}
-use Rattle.std.specs.Prelude.{All, Contains}
+use Rattle.std.proofs.Common.{◌≡◌, ◌≢◌, inl, ⊎_elim, ℕ, zero, suc, ◌<◌, Bool, true, false, List, [], ◌∷◌, sym, refl, ap, ◌∙◌, subst, arith, Option, Some}
+use Rattle.std.specs.Prelude.{Contains}
 use Rattle.std.proofs.lemmas.Bool.{false≢true}
 use Rattle.std.proofs.lemmas.List.Elements.{All-nil}
 use mathlib.Core.Logic.{dite}
@@ -11,11 +11,11 @@ use lib.ListN.{get_elem?}
 use Rattle.atomic_table.specs.Table.{State, Final, Seen, opening}
 use Rattle.and_turn.specs.declared.view.Known.{Known}
 use Rattle.and_turn.specs.declared.view.Stage.{Stage}
-use Rattle.and_turn.specs.declared.view.Stage.TheVariants.{Out, Waits, Has}
+use Rattle.and_turn.specs.declared.view.Stage.TheVariants.{Out, Has}
 use Rattle.and_turn.specs.declared.view.View.{View}
 use Rattle.and_turn.specs.Tales.{IsPrefix, own}
-use Rattle.and_turn.specs.Turns.{IsAt, HasNone, stages, facts, seats, Sits, NoOther, Kept, IsHome, IsAway, Turned, Sat, joined_view, opening_view}
-use Rattle.and_turn.proofs.Keeping.{Rule, known_at, stage_at}
+use Rattle.and_turn.specs.Turns.{IsAt, facts, Sits, Kept, IsHome, IsAway, Sat, joined_view, opening_view}
+use Rattle.and_turn.proofs.Keeping.{Rule, known_at}
 use Rattle.and_turn.proofs.Knowing.{seats_two}
 use Rattle.and_turn.proofs.Places.{same_place}
 use Rattle.and_turn.proofs.Queue.{kind}
@@ -33,13 +33,13 @@ module _ {S L R : Type 0} (lines_of : S → List L) (root_of : S → R) (seat_of
       let alone : (j : ℕ) (k : Known S L) → Sits (facts s.views) j k → j ≡ id = λ j k there. dite (ℕ_discrete j id) (λ e. e) (λ ne. let two = seats_two (facts s.views) j id k v.known there sits ne in absurd (omega arith)) in
       let seen_is : v.known.seen ≡ r.lines = all_seen seat_of v.known.seen r.lines (r.seen id v.known sits) (λ n. r.whole v.known at0 n (λ j k nz there. absurd (nz (alone j k there ∙ id_is)))) in
       let home : IsHome lines_of root_of seat_of opened s.homes s.views r.lines = ⊎_elim (λ (h : IsHome lines_of root_of seat_of opened s.homes s.views r.lines). h)
-          (λ (h : IsAway lines_of root_of seat_of opened s.homes s.views r.served r.lines). let j = h.1.0 in let u = h.1.1 in
-          let not_out : u.stage ≢ Out = λ e. let no : 2 ≡ 0 = sym (ap kind h.1.3) ∙ ap kind e in absurd (omega arith) in
-          let lives : (b : Bool) → u.known.live ≡ b → ⊥ = λ b. elim b as (λ (c : Bool). u.known.live ≡ c → ⊥) [
-            true ↦ λ e. not_out (ap (λ (z : View S L). z.stage) (same_place s.views j id u v h.1.2 at (alone j u.known (known_at s.views j u h.1.2 e))) ∙ out)
-            | false ↦ λ e. not_out (r.idle j u h.1.2 e)
-          ] in absurd (lives u.known.live refl))
-          r.slot in
+      (λ (h : IsAway lines_of root_of seat_of opened s.homes s.views r.served r.lines). let j = h.1.0 in let u = h.1.1 in
+      let not_out : u.stage ≢ Out = λ e. let no : 2 ≡ 0 = sym (ap kind h.1.3) ∙ ap kind e in absurd (omega arith) in
+      let lives : (b : Bool) → u.known.live ≡ b → ⊥ = λ b. elim b as (λ (c : Bool). u.known.live ≡ c → ⊥) [
+        | true ↦ λ e. not_out (ap (λ (z : View S L). z.stage) (same_place s.views j id u v h.1.2 at (alone j u.known (known_at s.views j u h.1.2 e))) ∙ out)
+        | false ↦ λ e. not_out (r.idle j u h.1.2 e)
+      ] in absurd (lives u.known.live refl))
+      r.slot in
       (home.0.0, home.0.1, home.0.2 ∙ sym seen_is, home.0.3)
 
   pub closed_slot : (ws : List ℕ) (xs : List (Option S)) (id : ℕ) (v : View S L) → Final (Seen (Rule lines_of root_of seat_of opened) id v) ws xs → v.stage ≡ Out → v.known.live ≡ true → v.known.number ≡ 0 → v.known.out ≡ 0

@@ -1,6 +1,6 @@
 -- Each step keeps the rule, and tells what it is said to tell.
-use Rattle.std.proofs.Common.{◌≡◌, ◌≢◌, ◌⊎◌, inl, inr, ⊎_elim, ℕ, zero, suc, ◌+◌, ◌-◌, ◌%◌, ◌^◌, ◌<◌, ◌≤◌, Bool, true, false, List, [], ◌∷◌, ◌++◌, map, length, get_or, set, sym, refl, ap, ◌∙◌, subst, arith, length-append, append-nil, Option, Some, None}
-use Rattle.std.specs.Prelude.{All, Contains}
+use Rattle.std.proofs.Common.{◌≡◌, ◌≢◌, ◌⊎◌, inl, inr, ⊎_elim, ℕ, ◌+◌, ◌-◌, ◌%◌, ◌^◌, ◌<◌, true, false, List, [], ◌∷◌, ◌++◌, length, get_or, set, sym, refl, ap, ◌∙◌, subst, arith, length-append, append-nil, Option, Some, None}
+use Rattle.std.specs.Prelude.{All}
 use Rattle.std.proofs.lemmas.Bool.{false≢true}
 use Rattle.std.proofs.lemmas.List.{map-set, map-append, length-map}
 use Rattle.std.proofs.lemmas.List.Elements.{All-nil}
@@ -10,17 +10,17 @@ use mathlib.Core.Option as maybe
 use native.Mathlib.Decide.{ℕ_discrete}
 use lib.ListN.{get_elem?}
 use Rattle.atomic_table.specs.Table.{State, step, keeps, takes, gives, put_back, rest, Allows, Splits, Joins}
-use Rattle.atomic_table.proofs.Lists.{at_set, at_snoc, at_longer, at_map, set_here, set_else, set_again, one_turn}
+use Rattle.atomic_table.proofs.Lists.{at_set, at_longer, at_map, set_here, set_else, set_again, one_turn}
 use Rattle.and_turn.specs.declared.view.Known.{Known}
 use Rattle.and_turn.specs.declared.view.Stage.{Stage}
 use Rattle.and_turn.specs.declared.view.Stage.TheVariants.{Out, Waits, Has}
 use Rattle.and_turn.specs.declared.view.View.{View}
 use Rattle.and_turn.specs.Tales.{IsPrefix, own}
-use Rattle.and_turn.specs.Turns.{IsAt, drew, tickets, HasNone, stages, facts, seats, Sits, NoOther, Kept, Sat, IsHome, IsAway, Turned, Shows, Draws, Looks, Passes, Learns, Adds, Recalls, split_left, split_right, joined_view, spent_view}
+use Rattle.and_turn.specs.Turns.{IsAt, HasNone, stages, facts, Sits, Sat, IsHome, IsAway, Turned, Shows, Draws, Looks, Passes, Learns, Adds, Recalls, split_left, split_right, joined_view, spent_view}
 use Rattle.and_turn.proofs.Joining.{join_known}
 use Rattle.and_turn.proofs.Knowing.{Knowing, seen_more, added}
 use Rattle.and_turn.proofs.Places.{in_range, same_place, at_split, at_join}
-use Rattle.and_turn.proofs.Queue.{Queue, NotHas, never_has, kind, waits_at, has_at, tickets-le, tickets-set, moved, gone, one_more, none_set, none_gone, none_more}
+use Rattle.and_turn.proofs.Queue.{Queue, never_has, kind, waits_at, tickets-le, tickets-set, moved, gone, one_more, none_set, none_gone, none_more}
 use Rattle.and_turn.proofs.Splitting.{split_known}
 
 module _ {S L : Type 0} where
@@ -143,13 +143,13 @@ module _ {S L R : Type 0} (lines_of : S → List L) (root_of : S → R) (seat_of
             (ap (λ (ws : List ℕ). set ws 1 ((get_or ws 1 0 + 1) % 2 ^ 64)) r.words ∙ ap (λ (n : ℕ). length r.lines ∷ n ∷ served % 2 ^ 64 ∷ []) next)
             (idle_set s.views id w live r.idle)
             (subst (λ (l : List Stage). Queue l (drawn + 1) served) (sym (stages-set s.views id w)) (moved gs id drawn (Waits drawn) drawn served (drawn + 1) (λ u e. sym e) (λ u e. absurd (never_has (Waits drawn) tt u e)) (omega arith, omega arith) (omega arith)
-                (λ j u x other there here. let lt = (r.range j u x there here).1 in λ e. absurd (omega arith)) (omega arith) (queue_of s r)))
+            (λ j u x other there here. let lt = (r.range j u x there here).1 in λ e. absurd (omega arith)) (omega arith) (queue_of s r)))
             (⊎_elim
-                (λ (h : Home s.homes s.views r.lines). inl (h.0, subst HasNone (sym (stages-set s.views id w)) (none_set gs id (Waits drawn) tt h.1)))
-                (λ (h : Away s.homes s.views served r.lines).
-                let other : h.1.0 ≢ id = λ e. let no : 2 ≡ 0 = sym (ap kind h.1.3) ∙ (ap (λ (k : View S L). kind k.stage) (same_place s.views h.1.0 id h.1.1 me.0 h.1.2 at e) ∙ ap kind out) in absurd (omega arith) in
-                inr (h.0, (h.1.0, h.1.1, set_else s.views id h.1.0 w other ∙ h.1.2, h.1.3, h.1.4)))
-                r.slot)
+            (λ (h : Home s.homes s.views r.lines). inl (h.0, subst HasNone (sym (stages-set s.views id w)) (none_set gs id (Waits drawn) tt h.1)))
+            (λ (h : Away s.homes s.views served r.lines).
+            let other : h.1.0 ≢ id = λ e. let no : 2 ≡ 0 = sym (ap kind h.1.3) ∙ (ap (λ (k : View S L). kind k.stage) (same_place s.views h.1.0 id h.1.1 me.0 h.1.2 at e) ∙ ap kind out) in absurd (omega arith) in
+            inr (h.0, (h.1.0, h.1.1, set_else s.views id h.1.0 w other ∙ h.1.2, h.1.3, h.1.4)))
+            r.slot)
             (subst (λ (l : List (Known S L)). Knowing seat_of opened l r.lines) (sym (facts_same s.views id me.0 w at refl)) (knowing_of s r)),
         (refl, (drawn, refl, found)),
       )
@@ -188,7 +188,7 @@ module _ {S L R : Type 0} (lines_of : S → List L) (root_of : S → R) (seat_of
         built (record { words = set s.words 2 found; homes = set s.homes 0 none; views = set s.views id w }) drawn served r.lines (kept ∙ r.words)
             (idle_set s.views id w live r.idle)
             (subst (λ (l : List Stage). Queue l drawn served) (sym (stages-set s.views id w)) (moved gs id t (Has t) drawn served drawn (λ u e. sym e) (λ u e. subst (λ (z : Stage). IsAt z t) e refl ∙ sym turn) (r.range id t (Waits t) mine refl) (omega arith)
-                (λ j u y other there here e. other (r.apart j id u y (Waits t) there mine here (sym e))) (omega arith) (queue_of s r)))
+            (λ j u y other there here e. other (r.apart j id u y (Waits t) there mine here (sym e))) (omega arith) (queue_of s r)))
             (inr (ap (λ (hs : List (maybe.Option (Option S))). set hs 0 none) home.0.1, (id, w, set_here s.views id w (in_range s.views id me.0 at), ap Has (sym turn), is_lines)))
             (subst (λ (l : List (Known S L)). Knowing seat_of opened l r.lines) (sym (facts_same s.views id me.0 w at refl)) (knowing_of s r)),
         λ u was alive. let same : t ≡ u = subst (λ (z : Stage). IsAt z u) waits (waits_at me.0.stage u was) in (
@@ -231,7 +231,7 @@ module _ {S L R : Type 0} (lines_of : S → List L) (root_of : S → R) (seat_of
       let kept : set s.words 0 (get_or s.words 0 0) ≡ s.words = ap (λ (ws : List ℕ). set ws 0 (get_or ws 0 0)) r.words ∙ sym r.words in
       let all : me.0.list ≡ r.lines ++ [] = h.1 ∙ sym (append-nil r.lines) in
       let grown : Knowing seat_of opened (set (facts s.views) id (seen_more k (r.lines ++ []))) (r.lines ++ [])
-          = added seat_of opened (facts s.views) id k r.lines [] (known_at s.views id me.0 at live) (All-nil (λ (l : L). seat_of l ≡ k.number)) (knowing_of s r) in (
+      = added seat_of opened (facts s.views) id k r.lines [] (known_at s.views id me.0 at live) (All-nil (λ (l : L). seat_of l ≡ k.number)) (knowing_of s r) in (
         w,
         keeps,
         tt,
@@ -240,8 +240,8 @@ module _ {S L R : Type 0} (lines_of : S → List L) (root_of : S → R) (seat_of
             (subst (λ (l : List Stage). Queue l r.drawn r.served) (sym (stages_same s.views id me.0 w at refl)) (queue_of s r))
             (inr (h.0, (id, w, set_here s.views id w (in_range s.views id me.0 at), has ∙ ap Has h.2, h.1)))
             (subst (λ (l : List (Known S L)). Knowing seat_of opened l r.lines) (sym (facts-set s.views id w))
-                (subst (λ (l : List L). Knowing seat_of opened (set (facts s.views) id w.known) l) (append-nil r.lines)
-                    (subst (λ (l : List L). Knowing seat_of opened (set (facts s.views) id (seen_more k l)) (r.lines ++ [])) (sym all) grown))),
+            (subst (λ (l : List L). Knowing seat_of opened (set (facts s.views) id w.known) l) (append-nil r.lines)
+            (subst (λ (l : List L). Knowing seat_of opened (set (facts s.views) id (seen_more k l)) (r.lines ++ [])) (sym all) grown))),
         (refl, refl, found ∙ ap length (sym h.1)),
       )
 
@@ -254,7 +254,7 @@ module _ {S L R : Type 0} (lines_of : S → List L) (root_of : S → R) (seat_of
       let low : c < 2 ^ 63 = subst (λ (l : List L). length l < 2 ^ 63) all short in
       let next : (n + new) % 2 ^ 64 ≡ c = omega arith in
       let more_known : Knowing seat_of opened (set (facts s.views) id (seen_more k (r.lines ++ more))) (r.lines ++ more)
-          = added seat_of opened (facts s.views) id k r.lines more (known_at s.views id me.0 at live) of (knowing_of s r) in (
+      = added seat_of opened (facts s.views) id k r.lines more (known_at s.views id me.0 at live) of (knowing_of s r) in (
         w,
         keeps,
         tt,
@@ -264,7 +264,7 @@ module _ {S L R : Type 0} (lines_of : S → List L) (root_of : S → R) (seat_of
             (subst (λ (l : List Stage). Queue l r.drawn r.served) (sym (stages_same s.views id me.0 w at refl)) (queue_of s r))
             (inr (h.0, (id, w, set_here s.views id w (in_range s.views id me.0 at), has ∙ ap Has h.2, all)))
             (subst (λ (l : List (Known S L)). Knowing seat_of opened l (r.lines ++ more)) (sym (facts-set s.views id w))
-                (subst (λ (l : List L). Knowing seat_of opened (set (facts s.views) id (seen_more k l)) (r.lines ++ more)) (sym all) more_known)),
+            (subst (λ (l : List L). Knowing seat_of opened (set (facts s.views) id (seen_more k l)) (r.lines ++ more)) (sym all) more_known)),
         (refl, λ y e. let same : x ≡ y = inside x y (sym carried ∙ e) in ap (λ (z : S). record me.0 { list = lines_of z; known = record k { seen = lines_of z } }) same),
       )
 
@@ -283,21 +283,21 @@ module _ {S L R : Type 0} (lines_of : S → List L) (root_of : S → R) (seat_of
       let same_stages : stages views' ≡ stages vs ++ Out ∷ [] = map-append (λ (v : View S L). v.stage) one (right ∷ []) ∙ ap (λ (l : List Stage). l ++ Out ∷ []) (stages_same vs id v left at refl) in
       let same_facts : facts views' ≡ set (facts vs) id left.known ++ right.known ∷ [] = map-append (λ (v : View S L). v.known) one (right ∷ []) ∙ ap (λ (l : List (Known S L)). l ++ right.known ∷ []) (facts-set vs id left) in
       built (record { words = s.words; homes = s.homes; views = views' }) r.drawn r.served r.lines r.words
-          (λ j x there dead. ⊎_elim
-              (λ (p : (j ≡ id) × (left ≡ x)). absurd (false≢true (sym dead ∙ (ap (λ (z : View S L). z.known.live) (sym p.1) ∙ live))))
-              (λ (q : ((j ≢ id) × (get_elem? vs j ≡ some x)) ⊎ ((j ≡ length one) × (right ≡ x))). ⊎_elim
-              (λ (p : (j ≢ id) × (get_elem? vs j ≡ some x)). r.idle j x p.1 dead)
-              (λ (p : (j ≡ length one) × (right ≡ x)). ap (λ (z : View S L). z.stage) (sym p.1))
-              q)
-              (at_split vs id j left right x there))
-          (subst (λ (l : List Stage). Queue l r.drawn r.served) (sym same_stages) (one_more (stages vs) r.drawn r.served (queue_of s r)))
-          (⊎_elim
-              (λ (h : Home s.homes vs r.lines). inl (h.0, subst HasNone (sym same_stages) (none_more (stages vs) h.1)))
-              (λ (h : Away s.homes vs r.served r.lines).
-              let other : h.1.0 ≢ id = λ e. let no : 2 ≡ 0 = sym (ap kind h.1.3) ∙ (ap (λ (k : View S L). kind k.stage) (same_place vs h.1.0 id h.1.1 v h.1.2 at e) ∙ ap kind out) in absurd (omega arith) in
-              inr (h.0, (h.1.0, h.1.1, at_longer one (right ∷ []) h.1.0 h.1.1 (set_else vs id h.1.0 left other ∙ h.1.2), h.1.3, h.1.4)))
-              r.slot)
-          (subst (λ (l : List (Known S L)). Knowing seat_of opened l r.lines) (sym same_facts) (split_known seat_of opened (facts vs) id v.known r.lines (known_at vs id v at live) zero_is room (knowing_of s r)))
+      (λ j x there dead. ⊎_elim
+      (λ (p : (j ≡ id) × (left ≡ x)). absurd (false≢true (sym dead ∙ (ap (λ (z : View S L). z.known.live) (sym p.1) ∙ live))))
+      (λ (q : ((j ≢ id) × (get_elem? vs j ≡ some x)) ⊎ ((j ≡ length one) × (right ≡ x))). ⊎_elim
+      (λ (p : (j ≢ id) × (get_elem? vs j ≡ some x)). r.idle j x p.1 dead)
+      (λ (p : (j ≡ length one) × (right ≡ x)). ap (λ (z : View S L). z.stage) (sym p.1))
+      q)
+      (at_split vs id j left right x there))
+      (subst (λ (l : List Stage). Queue l r.drawn r.served) (sym same_stages) (one_more (stages vs) r.drawn r.served (queue_of s r)))
+      (⊎_elim
+      (λ (h : Home s.homes vs r.lines). inl (h.0, subst HasNone (sym same_stages) (none_more (stages vs) h.1)))
+      (λ (h : Away s.homes vs r.served r.lines).
+      let other : h.1.0 ≢ id = λ e. let no : 2 ≡ 0 = sym (ap kind h.1.3) ∙ (ap (λ (k : View S L). kind k.stage) (same_place vs h.1.0 id h.1.1 v h.1.2 at e) ∙ ap kind out) in absurd (omega arith) in
+      inr (h.0, (h.1.0, h.1.1, at_longer one (right ∷ []) h.1.0 h.1.1 (set_else vs id h.1.0 left other ∙ h.1.2), h.1.3, h.1.4)))
+      r.slot)
+      (subst (λ (l : List (Known S L)). Knowing seat_of opened l r.lines) (sym same_facts) (split_known seat_of opened (facts vs) id v.known r.lines (known_at vs id v at live) zero_is room (knowing_of s r)))
 
   pub joins : (id other : ℕ) (v w : View S L) → v.stage ≡ Out → v.known.live ≡ true → v.known.number ≡ 0 → w.stage ≡ Out → w.known.live ≡ true → Joins Rule id v other w (joined_view v w) spent_view
   joins id other v w out live zero_is w_out w_live s r at ne there = let both : View S L = joined_view v w in let vs : List (View S L) = s.views in
@@ -306,20 +306,20 @@ module _ {S L R : Type 0} (lines_of : S → List L) (root_of : S → R) (seat_of
       let same_stages : stages views' ≡ stages vs = stages-set one other spent_view ∙ (ap (λ (l : List Stage). set l other Out) (stages_same vs id v both at refl) ∙ set_again (stages vs) other Out (stage_at vs other w Out at_w w_out)) in
       let same_facts : facts views' ≡ set (set (facts vs) id both.known) other (spent_view {S = S} {L = L}).known = facts-set one other spent_view ∙ ap (λ (l : List (Known S L)). set l other (spent_view {S = S} {L = L}).known) (facts-set vs id both) in
       built (record { words = s.words; homes = s.homes; views = views' }) r.drawn r.served r.lines r.words
-          (λ j x here dead. ⊎_elim
-              (λ (p : (j ≡ other) × (spent_view ≡ x)). ap (λ (z : View S L). z.stage) (sym p.1))
-              (λ (q : (j ≢ other) × (((j ≡ id) × (both ≡ x)) ⊎ ((j ≢ id) × (get_elem? vs j ≡ some x)))). ⊎_elim
-              (λ (p : (j ≡ id) × (both ≡ x)). absurd (false≢true (sym dead ∙ (ap (λ (z : View S L). z.known.live) (sym p.1) ∙ live))))
-              (λ (p : (j ≢ id) × (get_elem? vs j ≡ some x)). r.idle j x p.1 dead)
-              q.1)
-              (at_join vs id other j both spent_view x here))
-          (subst (λ (l : List Stage). Queue l r.drawn r.served) (sym same_stages) (queue_of s r))
-          (⊎_elim
-              (λ (h : Home s.homes vs r.lines). inl (h.0, subst HasNone (sym same_stages) h.1))
-              (λ (h : Away s.homes vs r.served r.lines).
-              let not_at : (i : ℕ) (u : View S L) → get_elem? vs i ≡ some u → u.stage ≡ Out → h.1.0 ≢ i
-                  = λ i u at_u u_out e. let no : 2 ≡ 0 = sym (ap kind h.1.3) ∙ (ap (λ (k : View S L). kind k.stage) (same_place vs h.1.0 i h.1.1 u h.1.2 at_u e) ∙ ap kind u_out) in absurd (omega arith) in
-              inr (h.0, (h.1.0, h.1.1, set_else one other h.1.0 spent_view (not_at other w at_w w_out) ∙ (set_else vs id h.1.0 both (not_at id v at out) ∙ h.1.2), h.1.3, h.1.4)))
-              r.slot)
-          (subst (λ (l : List (Known S L)). Knowing seat_of opened l r.lines) (sym same_facts)
-              (join_known seat_of opened (facts vs) id other v.known w.known (spent_view {S = S} {L = L}).known r.lines (known_at vs id v at live) (known_at vs other w at_w w_live) ne zero_is refl (knowing_of s r)))
+      (λ j x here dead. ⊎_elim
+      (λ (p : (j ≡ other) × (spent_view ≡ x)). ap (λ (z : View S L). z.stage) (sym p.1))
+      (λ (q : (j ≢ other) × (((j ≡ id) × (both ≡ x)) ⊎ ((j ≢ id) × (get_elem? vs j ≡ some x)))). ⊎_elim
+      (λ (p : (j ≡ id) × (both ≡ x)). absurd (false≢true (sym dead ∙ (ap (λ (z : View S L). z.known.live) (sym p.1) ∙ live))))
+      (λ (p : (j ≢ id) × (get_elem? vs j ≡ some x)). r.idle j x p.1 dead)
+      q.1)
+      (at_join vs id other j both spent_view x here))
+      (subst (λ (l : List Stage). Queue l r.drawn r.served) (sym same_stages) (queue_of s r))
+      (⊎_elim
+      (λ (h : Home s.homes vs r.lines). inl (h.0, subst HasNone (sym same_stages) h.1))
+      (λ (h : Away s.homes vs r.served r.lines).
+      let not_at : (i : ℕ) (u : View S L) → get_elem? vs i ≡ some u → u.stage ≡ Out → h.1.0 ≢ i
+      = λ i u at_u u_out e. let no : 2 ≡ 0 = sym (ap kind h.1.3) ∙ (ap (λ (k : View S L). kind k.stage) (same_place vs h.1.0 i h.1.1 u h.1.2 at_u e) ∙ ap kind u_out) in absurd (omega arith) in
+      inr (h.0, (h.1.0, h.1.1, set_else one other h.1.0 spent_view (not_at other w at_w w_out) ∙ (set_else vs id h.1.0 both (not_at id v at out) ∙ h.1.2), h.1.3, h.1.4)))
+      r.slot)
+      (subst (λ (l : List (Known S L)). Knowing seat_of opened l r.lines) (sym same_facts)
+      (join_known seat_of opened (facts vs) id other v.known w.known (spent_view {S = S} {L = L}).known r.lines (known_at vs id v at live) (known_at vs other w at_w w_live) ne zero_is refl (knowing_of s r)))

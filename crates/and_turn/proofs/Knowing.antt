@@ -1,19 +1,17 @@
 -- The rule's part on what the seats know, over that alone.
-use Rattle.std.proofs.Common.{◌≡◌, ◌≢◌, ◌⊎◌, ⊎_elim, ℕ, zero, suc, ◌+◌, ◌-◌, ◌^◌, ◌<◌, ◌≤◌, Bool, true, false, List, [], ◌∷◌, ◌++◌, length, set, sym, refl, ap, ◌∙◌, subst, arith, length-set, length-append, Option, Some}
+use Rattle.std.proofs.Common.{◌≡◌, ◌≢◌, ⊎_elim, ℕ, zero, suc, ◌+◌, ◌^◌, ◌<◌, ◌≤◌, true, List, [], ◌∷◌, ◌++◌, length, set, sym, refl, ap, ◌∙◌, subst, arith, length-set, Some}
 use Rattle.std.specs.Prelude.{All, Contains}
-use Rattle.std.proofs.lemmas.Bool.{false≢true}
-use Rattle.std.proofs.lemmas.List.Elements.{All-append, All-weaker, Contains-push_cases}
+use Rattle.std.proofs.lemmas.List.Elements.{All-append, All-weaker}
 use mathlib.Core.Logic.{dite}
 use mathlib.Core.Option.{some, some-injective, some-ne-none}
 use native.Mathlib.Decide.{ℕ_discrete}
 use lib.ListN.{get_elem?}
-use Rattle.atomic_table.proofs.Lists.{at_set, set_here, set_else, at_longer, at_last}
+use Rattle.atomic_table.proofs.Lists.{at_set, set_here, set_else}
 use Rattle.and_turn.specs.declared.view.Known.{Known}
-use Rattle.and_turn.specs.declared.view.Merged.{Merged}
-use Rattle.and_turn.specs.Tales.{IsPrefix, own, longer}
-use Rattle.and_turn.specs.Turns.{counts, seats, Sits, NoOther, Kept, unmerged}
-use Rattle.and_turn.proofs.Places.{in_range, same_place, at_split, at_join}
-use Rattle.and_turn.proofs.Tales.{prefix_self, prefix_longer, own_none, own_other, own_part, longer_prefix, longer_left, longer_right, own_longer_left, own_longer_right}
+use Rattle.and_turn.specs.Tales.{IsPrefix, own}
+use Rattle.and_turn.specs.Turns.{counts, seats, Sits, NoOther, Kept}
+use Rattle.and_turn.proofs.Places.{in_range, same_place}
+use Rattle.and_turn.proofs.Tales.{prefix_self, prefix_longer, own_other}
 
 module _ {S L : Type 0} (seat_of : L → ℕ) (opened : S) where
   pub record Knowing (ks : List (Known S L)) (lines : List L) : Type 0 where
@@ -82,43 +80,43 @@ module _ {S L : Type 0} (seat_of : L → ℕ) (opened : S) where
       → Knowing seat_of opened ks lines → Knowing seat_of opened (set ks id (seen_more k (lines ++ more))) (lines ++ more)
   added ks id k lines more at of r = let all : List L = lines ++ more in let w : Known S L = seen_more k all in let ks' : List (Known S L) = set ks id w in
       let differ : (n : ℕ) → k.number ≢ n → own seat_of all n ≡ own seat_of lines n
-          = λ n ne. own_other seat_of lines more n (All-weaker (λ (l : L). seat_of l ≡ k.number) (λ (l : L). seat_of l ≢ n) (λ l is e. ne (sym is ∙ e)) more of) in
+      = λ n ne. own_other seat_of lines more n (All-weaker (λ (l : L). seat_of l ≡ k.number) (λ (l : L). seat_of l ≢ n) (λ l is e. ne (sym is ∙ e)) more of) in
       let long : length ks' ≡ length ks = length-set ks id w in record {
-    seen = λ j x there. ⊎_elim
-        (λ (p : (j ≡ id) × (w ≡ x)). subst (λ (z : Known S L). IsPrefix z.seen all) p.1 (prefix_self all))
-        (λ (p : (j ≢ id) × (get_elem? ks j ≡ some x)). prefix_longer x.seen lines more (r.seen j x (p.1, there.1)))
-        (at_set ks id j w x there.0);
-    rooted = λ j x there. ⊎_elim
-        (λ (p : (j ≡ id) × (w ≡ x)). subst (λ (z : Known S L). z.opened ≡ Some opened) p.1 (r.rooted id k at))
-        (λ (p : (j ≢ id) × (get_elem? ks j ≡ some x)). r.rooted j x (p.1, there.1))
-        (at_set ks id j w x there.0);
-    first = let f = r.first in let count = seats-set ks id k w at.0 in dite (ℕ_discrete 0 id)
-        (λ e. let is : f.0 ≡ k = same_seat ks 0 id f.0 k f.1 at e in
-        (w, subst (λ (m : ℕ). Sits ks' m w) (sym e) (here ks id k w at at.1), let s = f.2 in let o : f.0.out ≡ k.out = ap (λ (z : Known S L). z.out) is in omega arith, sym (ap (λ (z : Known S L). z.made) is) ∙ (f.3 ∙ sym long)))
-        (λ ne. (f.0, (set_else ks id 0 w ne ∙ f.1.0, f.1.1), let s = f.2 in omega arith, f.3 ∙ sym long));
-    few = subst (λ (n : ℕ). n < 2 ^ 32) (sym long) r.few;
-    numbers = λ j x there. ⊎_elim
-        (λ (p : (j ≡ id) × (w ≡ x)). subst (λ (z : Known S L). z.number ≡ j) p.1 (r.numbers id k at ∙ sym p.0))
-        (λ (p : (j ≢ id) × (get_elem? ks j ≡ some x)). r.numbers j x (p.1, there.1))
-        (at_set ks id j w x there.0);
-    mine = λ j x there. ⊎_elim
-        (λ (p : (j ≡ id) × (w ≡ x)). subst (λ (z : Known S L). own seat_of all z.number ≡ own seat_of z.seen z.number) p.1 refl)
-        (λ (p : (j ≢ id) × (get_elem? ks j ≡ some x)). differ x.number (λ e. p.0 (sym (r.numbers j x (p.1, there.1)) ∙ (sym e ∙ r.numbers id k at))) ∙ r.mine j x (p.1, there.1))
-        (at_set ks id j w x there.0);
-    whole = λ x there n none. ⊎_elim
-        (λ (p : (0 ≡ id) × (w ≡ x)). subst (λ (z : Known S L). own seat_of all n ≡ own seat_of z.seen n) p.1 refl)
-        (λ (p : (0 ≢ id) × (get_elem? ks 0 ≡ some x)). let before = other_back ks id k w n at at.1 refl none in
-        differ n (before id k (λ e. p.0 (sym e)) at) ∙ r.whole x (p.1, there.1) n before)
-        (at_set ks id 0 w x there.0);
-    ended = λ x there n among. ⊎_elim
-        (λ (p : (0 ≡ id) × (w ≡ x)). let o = r.ended k (subst (λ (m : ℕ). Sits ks m k) (sym p.0) at) n (subst (λ (z : Known S L). Contains z.ended n) (sym p.1) among) in
-        (subst (λ (z : Known S L). n < z.made) p.1 o.0, other_on ks id k w n at refl o.1))
-        (λ (p : (0 ≢ id) × (get_elem? ks 0 ≡ some x)). let o = r.ended x (p.1, there.1) n among in (o.0, other_on ks id k w n at refl o.1))
-        (at_set ks id 0 w x there.0);
-    named = subst (λ (m : ℕ). All (λ l. seat_of l < m) all) (sym long) (All-append (λ (l : L). seat_of l < length ks) lines more r.named
-        (All-weaker (λ (l : L). seat_of l ≡ k.number) (λ (l : L). seat_of l < length ks) (λ l is. subst (λ (m : ℕ). m < length ks) (sym (is ∙ r.numbers id k at)) (in_range ks id k at.0)) more of));
-    merged = λ x there. ⊎_elim
-        (λ (p : (0 ≡ id) × (w ≡ x)). subst (λ (z : Known S L). Kept seat_of z.merged) p.1 (r.merged k (subst (λ (m : ℕ). Sits ks m k) (sym p.0) at)))
-        (λ (p : (0 ≢ id) × (get_elem? ks 0 ≡ some x)). r.merged x (p.1, there.1))
-        (at_set ks id 0 w x there.0);
-  }
+        seen = λ j x there. ⊎_elim
+            (λ (p : (j ≡ id) × (w ≡ x)). subst (λ (z : Known S L). IsPrefix z.seen all) p.1 (prefix_self all))
+            (λ (p : (j ≢ id) × (get_elem? ks j ≡ some x)). prefix_longer x.seen lines more (r.seen j x (p.1, there.1)))
+            (at_set ks id j w x there.0);
+        rooted = λ j x there. ⊎_elim
+            (λ (p : (j ≡ id) × (w ≡ x)). subst (λ (z : Known S L). z.opened ≡ Some opened) p.1 (r.rooted id k at))
+            (λ (p : (j ≢ id) × (get_elem? ks j ≡ some x)). r.rooted j x (p.1, there.1))
+            (at_set ks id j w x there.0);
+        first = let f = r.first in let count = seats-set ks id k w at.0 in dite (ℕ_discrete 0 id)
+            (λ e. let is : f.0 ≡ k = same_seat ks 0 id f.0 k f.1 at e in
+            (w, subst (λ (m : ℕ). Sits ks' m w) (sym e) (here ks id k w at at.1), let s = f.2 in let o : f.0.out ≡ k.out = ap (λ (z : Known S L). z.out) is in omega arith, sym (ap (λ (z : Known S L). z.made) is) ∙ (f.3 ∙ sym long)))
+            (λ ne. (f.0, (set_else ks id 0 w ne ∙ f.1.0, f.1.1), let s = f.2 in omega arith, f.3 ∙ sym long));
+        few = subst (λ (n : ℕ). n < 2 ^ 32) (sym long) r.few;
+        numbers = λ j x there. ⊎_elim
+            (λ (p : (j ≡ id) × (w ≡ x)). subst (λ (z : Known S L). z.number ≡ j) p.1 (r.numbers id k at ∙ sym p.0))
+            (λ (p : (j ≢ id) × (get_elem? ks j ≡ some x)). r.numbers j x (p.1, there.1))
+            (at_set ks id j w x there.0);
+        mine = λ j x there. ⊎_elim
+            (λ (p : (j ≡ id) × (w ≡ x)). subst (λ (z : Known S L). own seat_of all z.number ≡ own seat_of z.seen z.number) p.1 refl)
+            (λ (p : (j ≢ id) × (get_elem? ks j ≡ some x)). differ x.number (λ e. p.0 (sym (r.numbers j x (p.1, there.1)) ∙ (sym e ∙ r.numbers id k at))) ∙ r.mine j x (p.1, there.1))
+            (at_set ks id j w x there.0);
+        whole = λ x there n none. ⊎_elim
+            (λ (p : (0 ≡ id) × (w ≡ x)). subst (λ (z : Known S L). own seat_of all n ≡ own seat_of z.seen n) p.1 refl)
+            (λ (p : (0 ≢ id) × (get_elem? ks 0 ≡ some x)). let before = other_back ks id k w n at at.1 refl none in
+            differ n (before id k (λ e. p.0 (sym e)) at) ∙ r.whole x (p.1, there.1) n before)
+            (at_set ks id 0 w x there.0);
+        ended = λ x there n among. ⊎_elim
+            (λ (p : (0 ≡ id) × (w ≡ x)). let o = r.ended k (subst (λ (m : ℕ). Sits ks m k) (sym p.0) at) n (subst (λ (z : Known S L). Contains z.ended n) (sym p.1) among) in
+            (subst (λ (z : Known S L). n < z.made) p.1 o.0, other_on ks id k w n at refl o.1))
+            (λ (p : (0 ≢ id) × (get_elem? ks 0 ≡ some x)). let o = r.ended x (p.1, there.1) n among in (o.0, other_on ks id k w n at refl o.1))
+            (at_set ks id 0 w x there.0);
+        named = subst (λ (m : ℕ). All (λ l. seat_of l < m) all) (sym long) (All-append (λ (l : L). seat_of l < length ks) lines more r.named
+            (All-weaker (λ (l : L). seat_of l ≡ k.number) (λ (l : L). seat_of l < length ks) (λ l is. subst (λ (m : ℕ). m < length ks) (sym (is ∙ r.numbers id k at)) (in_range ks id k at.0)) more of));
+        merged = λ x there. ⊎_elim
+            (λ (p : (0 ≡ id) × (w ≡ x)). subst (λ (z : Known S L). Kept seat_of z.merged) p.1 (r.merged k (subst (λ (m : ℕ). Sits ks m k) (sym p.0) at)))
+            (λ (p : (0 ≢ id) × (get_elem? ks 0 ≡ some x)). r.merged x (p.1, there.1))
+            (at_set ks id 0 w x there.0);
+      }

@@ -1,5 +1,5 @@
 -- What a clause reads of a seat and of a lock.
-use Rattle.std.specs.Prelude.{◌≡◌, ℕ, ◌%◌, ◌^◌, List, [], ◌∷◌, Option, Some, None, true, length}
+use Rattle.std.specs.Prelude.{◌≡◌, ℕ, ◌%◌, ◌^◌, List, [], ◌∷◌, Some, None, true, length}
 use Rattle.and_turn.specs.declared.seat.Seat.{Seat}
 use Rattle.and_turn.specs.declared.seat.TurnLock.{TurnLock}
 use Rattle.and_turn.specs.declared.tale.Tale.{Ghosts}

@@ -1,5 +1,5 @@
 -- Words of tales: a tale is a list of lines, and each line names the number of a seat.
-use Rattle.std.specs.Prelude.{◌≡◌, ℕ, ◌==◌, Bool, List, ◌++◌, length, filter, nat_lt, if◌then◌else◌}
+use Rattle.std.specs.Prelude.{◌≡◌, ℕ, ◌==◌, List, ◌++◌, length, filter, nat_lt, if◌then◌else◌}
 
 module _ {L : Type 0} where
   -- `lines` begins with `seen`

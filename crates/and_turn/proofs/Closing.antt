@@ -1,5 +1,5 @@
 -- How the table begins, and what it has at its end.
-use Rattle.std.proofs.Common.{◌≡◌, ◌≢◌, inl, ⊎_elim, ℕ, zero, suc, ◌<◌, Bool, true, false, List, [], ◌∷◌, sym, refl, ap, ◌∙◌, subst, arith, Option, Some}
+use Rattle.std.proofs.Common.{◌≡◌, ◌≢◌, inl, ⊎_elim, ℕ, zero, suc, ◌<◌, Bool, true, false, List, [], ◌∷◌, ◌++◌, sym, refl, ap, ◌∙◌, subst, arith, Option, Some}
 use Rattle.std.specs.Prelude.{Contains}
 use Rattle.std.proofs.lemmas.Bool.{false≢true}
 use Rattle.std.proofs.lemmas.List.Elements.{All-nil}
@@ -22,6 +22,10 @@ use Rattle.and_turn.proofs.Queue.{kind}
 use Rattle.and_turn.proofs.Tales.{prefix_self, all_seen}
 
 module _ {S L R : Type 0} (lines_of : S → List L) (root_of : S → R) (seat_of : L → ℕ) (opened : S) where
+  at_home : (s : State (Option S) (View S L)) (lines seen : List L) → IsHome lines_of root_of seat_of opened s.homes s.views lines → seen ≡ lines
+      → (x : S) × (s.homes ≡ some (Some x) ∷ []) × (lines_of x ≡ seen) × (root_of x ≡ root_of opened)
+  at_home s lines seen h is = (h.0.0, h.0.1, h.0.2 ∙ sym is, h.0.3)
+
   -- at the end the first seat is alone: the slot is home, and it has seen all lines
   pub closes : (s : State (Option S) (View S L)) (id : ℕ) (v : View S L) → Seen (Rule lines_of root_of seat_of opened) id v s → v.stage ≡ Out → v.known.live ≡ true → v.known.number ≡ 0 → v.known.out ≡ 0
       → (x : S) × (s.homes ≡ some (Some x) ∷ []) × (lines_of x ≡ v.known.seen) × (root_of x ≡ root_of opened)
@@ -36,11 +40,11 @@ module _ {S L R : Type 0} (lines_of : S → List L) (root_of : S → R) (seat_of
       (λ (h : IsAway lines_of root_of seat_of opened s.homes s.views r.served r.lines). let j = h.1.0 in let u = h.1.1 in
       let not_out : u.stage ≢ Out = λ e. let no : 2 ≡ 0 = sym (ap kind h.1.3) ∙ ap kind e in absurd (omega arith) in
       let lives : (b : Bool) → u.known.live ≡ b → ⊥ = λ b. elim b as (λ (c : Bool). u.known.live ≡ c → ⊥) [
-        | true ↦ λ e. not_out (ap (λ (z : View S L). z.stage) (same_place s.views j id u v h.1.2 at (alone j u.known (known_at s.views j u h.1.2 e))) ∙ out)
+        | true ↦ λ e. let same : u.stage ≡ v.stage = ap (λ (z : View S L). z.stage) (same_place s.views j id u v h.1.2 at (alone j u.known (known_at s.views j u h.1.2 e))) in not_out (same ∙ out)
         | false ↦ λ e. not_out (r.idle j u h.1.2 e)
       ] in absurd (lives u.known.live refl))
       r.slot in
-      (home.0.0, home.0.1, home.0.2 ∙ sym seen_is, home.0.3)
+      at_home s r.lines v.known.seen home seen_is
 
   pub closed_slot : (ws : List ℕ) (xs : List (Option S)) (id : ℕ) (v : View S L) → Final (Seen (Rule lines_of root_of seat_of opened) id v) ws xs → v.stage ≡ Out → v.known.live ≡ true → v.known.number ≡ 0 → v.known.out ≡ 0
       → (x : S) × (get_elem? xs 0 ≡ some (Some x)) × (lines_of x ≡ v.known.seen) × (root_of x ≡ root_of opened)
@@ -75,6 +79,12 @@ module _ {S L R : Type 0} (lines_of : S → List L) (root_of : S → R) (seat_of
     named = All-nil (λ (l : L). seat_of l < 1);
     merged = λ x there. let kept : Kept seat_of k.merged = record { before = prefix_self []; joined = prefix_self []; last = refl; first = refl; earlier = λ n h. refl } in subst (λ (z : Known S L). Kept seat_of z.merged) (only k x 0 there.0).1 kept;
   }
+
+-- the same, of a list of slots to which the value was added
+pub opens_with : {S L R : Type 0} (lines_of : S → List L) (root_of : S → R) (seat_of : L → ℕ) (x value : S) (before slots : List (Option S)) → x ≡ value → before ≡ [] → slots ≡ before ++ Some value ∷ [] → lines_of value ≡ []
+    → Rule lines_of root_of seat_of x (opening (0 ∷ 0 ∷ 0 ∷ []) slots (opening_view x))
+opens_with {S = S} lines_of root_of seat_of x value before slots same none_before added empty = let is : slots ≡ Some x ∷ [] = added ∙ (ap (λ (l : List (Option S)). l ++ Some value ∷ []) none_before ∙ ap (λ (z : S). Some z ∷ []) (sym same)) in
+    subst (λ (l : List (Option S)). Rule lines_of root_of seat_of x (opening (0 ∷ 0 ∷ 0 ∷ []) l (opening_view x))) (sym is) (opens lines_of root_of seat_of x (ap lines_of same ∙ empty))
 
 -- what a look after a join tells: the lines of each number that was joined before are as they were
 pub joined_ended : {S L : Type 0} (seat_of : L → ℕ) (v w : View S L) (held : List (ℕ × Option S)) (m m' : Sat S L) → m ≡ (joined_view v w, held) → m' ≡ m

@@ -5,8 +5,8 @@ use and_turn::Tale;
 
 /// How many turns were taken, modulo 2^64. It is a tale without lines, so that a turn's own cost is timed.
 #[derive(Drop)]
-pub struct Tally {
-    pub turns: u64,
+pub(crate) struct Tally {
+    pub(crate) turns: u64,
 }
 
 impl Tale for Tally {

@@ -60,7 +60,7 @@ fn join_all(lock: &TurnLock<Tally>, first: &mut Seat<Tally>, mut jobs: Vec<Job>)
 }
 
 /// At least one and at most 64 threads take that many turns each. The answer is what the value counted.
-pub fn run<R: Threads + Wait + Sync>(
+pub(crate) fn run<R: Threads + Wait + Sync>(
     rt: &R,
     alloc: Global,
     threads: u32,

@@ -1,6 +1,6 @@
-use Rattle.std.proofs.Common.{◌≡◌, ◌%◌, ◌^◌, ℕ, []}
-use Rattle.and_turn.specs.declared.view.Stage.TheVariants.{Waits}
+use Rattle.std.proofs.Common.{◌≡◌}
+use Rattle.and_turn.specs.Seats.{Queues, SitsAt, known_of}
 use Rattle.and_turn.proofs.seat.TurnLock.enter.Given as goal
 
 abbrev pub invariant-loop : goal.invariant-loop
-invariant-loop g l = (l.seat.place.table_id ≡ l.fn.seat.place.table_id) × (l.seat.place.me.1 ≡ []) × ((t : ℕ) × (l.seat.place.me.0 ≡ record l.fn.seat.place.me.0 { stage = Waits t }) × (l.seat.ticket ≡ t % 2 ^ 64))
+invariant-loop g l = SitsAt l.self l.seat × (known_of l.seat ≡ known_of l.fn.seat) × Queues l.seat

@@ -81,9 +81,7 @@ module _ {S L R : Type 0} (lines_of : S → List L) (root_of : S → R) (seat_of
     pub drawn : ℕ
     pub served : ℕ
     pub lines : List L
-    -- a seat that is spent has no ticket
-    pub idle : (j : ℕ) (v : View S L) → get_elem? s.views j ≡ some v → v.known.live ≡ false → v.stage ≡ Out
-    -- the three words: as many lines as the list has, and the tickets
+    -- the three words: how many lines there are, which a value at home has, and the two tickets
     pub words : s.words ≡ length lines ∷ drawn % 2 ^ 64 ∷ served % 2 ^ 64 ∷ []
     -- the tickets drawn and not yet served are those that seats have
     pub counted : drawn ≡ served + tickets (stages s.views)
@@ -91,6 +89,8 @@ module _ {S L R : Type 0} (lines_of : S → List L) (root_of : S → R) (seat_of
     pub range : (j t : ℕ) (g : Stage) → get_elem? (stages s.views) j ≡ some g → IsAt g t → (served ≤ t) × (t < drawn)
     -- no two seats have one ticket
     pub apart : (i j t : ℕ) (g h : Stage) → get_elem? (stages s.views) i ≡ some g → get_elem? (stages s.views) j ≡ some h → IsAt g t → IsAt h t → i ≡ j
+    -- a seat that is spent has no ticket
+    pub idle : (j : ℕ) (v : View S L) → get_elem? s.views j ≡ some v → v.known.live ≡ false → v.stage ≡ Out
     -- the seat that took the slot has the ticket that is served
     pub turn : (j t : ℕ) → get_elem? (stages s.views) j ≡ some (Has t) → t ≡ served
     -- the slot is home with the lock's lines, or out with that seat, whose list they are
@@ -101,6 +101,7 @@ module _ {S L R : Type 0} (lines_of : S → List L) (root_of : S → R) (seat_of
     pub rooted : (j : ℕ) (k : Known S L) → Sits (facts s.views) j k → k.opened ≡ Some opened
     -- the first seat is not spent, `out` is the number of the others that are not, and `made` that of all seats ever
     pub first : (k : Known S L) × Sits (facts s.views) 0 k × (seats (facts s.views) ≡ k.out + 1) × (k.made ≡ length (facts s.views))
+    -- there are few enough seats that a ticket is known by its distance from the served one
     pub few : length (facts s.views) < 2 ^ 32
     -- a seat's number is its place among the views, so the numbers differ and are below `made`
     pub numbers : (j : ℕ) (k : Known S L) → Sits (facts s.views) j k → k.number ≡ j

@@ -10,9 +10,12 @@ use std::snapshot::Snapshot;
 
 /// The right to take turns at one lock. It is not `Drop`, so it cannot be lost: the first seat takes it in.
 pub struct Seat<S: Tale> {
+    /// The ticket that it drew last, modulo 2^64.
     pub(crate) ticket: u64,
+    /// How many lines the value had when it came.
     pub(crate) lines: u64,
     pub(crate) number: u32,
+    /// Of the first seat: how many seats were made, which is the number of the next one.
     pub(crate) made: u32,
     pub(crate) place: atomic_table::Seat<Option<S>, View<S, S::Line>>,
     ghost numbered: { number ≡ place.me.0.known.number },

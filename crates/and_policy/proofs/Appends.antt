@@ -1,12 +1,11 @@
 -- What one entry more at the end adds to what a prefix has.
-use Rattle.std.proofs.Common.{◌≡◌, ℕ, ◌+◌, Bool, true, false, ◌&&◌, ◌||◌, not, List, [], ◌∷◌, ◌++◌, refl, ap, sym, ◌∙◌, cond, arith, append-nil}
+use Rattle.std.proofs.Common.{◌≡◌, ℕ, Bool, true, false, ◌&&◌, ◌||◌, not, List, [], ◌∷◌, ◌++◌, refl, ap, ◌∙◌, append-nil}
 use Rattle.std.specs.Prelude.{if◌then◌else◌, ◌==◌}
 use Rattle.std.specs.List.{list_any}
-use Rattle.std.proofs.lemmas.List.Folds.{list_any-append}
 use Rattle.and_policy.specs.declared.entry.Entry.{Entry}
-use Rattle.and_policy.specs.declared.entry.Entry.TheVariants.{AddNet, AddVm, RemoveVm, Place, AddRule, DelRule, AddRoute, DelRoute, Tick}
+use Rattle.and_policy.specs.declared.entry.Entry.TheVariants.{AddNet, AddVm, AddRule}
 use Rattle.and_policy.specs.declared.entry.Rule.{Rule}
-use Rattle.and_policy.specs.Logs.{Vm, nets, added, vms, removes, rules, deletes_rule}
+use Rattle.and_policy.specs.Logs.{nets, added, vms, removes, rules, deletes_rule}
 
 -- a choice about the first element, before a list and after
 if_cons : {A : Type 0} (b : Bool) (x : A) (xs ys : List A) → (if b then x ∷ (xs ++ ys) else xs ++ ys) ≡ (if b then x ∷ xs else xs) ++ ys

@@ -1,8 +1,7 @@
 -- How the indexes follow one entry more.
-use Rattle.std.proofs.Common.{◌≡◌, ℕ, ◌+◌, ◌*◌, ◌<◌, Bool, true, false, ◌&&◌, ◌||◌, not, List, [], ◌∷◌, ◌++◌, length, Option, Some, None, nat_eq, cond, unwrap_or, refl, ap, sym, ◌∙◌, subst, arith, rules, length-append, append-nil}
+use Rattle.std.proofs.Common.{◌≡◌, ℕ, ◌+◌, Bool, true, false, ◌&&◌, ◌||◌, List, [], ◌∷◌, ◌++◌, length, Option, Some, None, nat_eq, cond, unwrap_or, refl, ap, sym, ◌∙◌, subst, arith, length-append, append-nil}
 use Rattle.std.specs.Prelude.{if◌then◌else◌, ◌==◌, is_some}
 use Rattle.std.specs.List.{list_any}
-use Rattle.std.proofs.lemmas.Grind.{common_steps}
 use Rattle.std.proofs.lemmas.Bool.{eqb-true}
 use Rattle.std.proofs.lemmas.List.Folds.{list_any-append}
 use Rattle.std.specs.HashMap as hash
@@ -18,7 +17,7 @@ use Rattle.and_policy.specs.declared.index.Index.{Index}
 use Rattle.and_policy.specs.Indexes.{IsIndex, pair_eq}
 use Rattle.and_policy.specs.Logs as logs
 use Rattle.and_policy.specs.Logs.{nets, has_net, added, vms, has_rule}
-use Rattle.and_policy.proofs.Appends.{nets-append, added-append, vms-append, rules-append, added-net, vms-net, rules-net, nets-vm, rules-vm, nets-rule, added-rule, vms-rule, rules-rule}
+use Rattle.and_policy.proofs.Appends.{nets-append, added-append, vms-append, added-net, vms-net, rules-net, nets-vm, rules-vm, nets-rule, added-rule, vms-rule, rules-rule}
 
 abbrev Map : Type 0
 Map = HashMap ℕ ℕ (BuildHasherDefault FoldHasher)

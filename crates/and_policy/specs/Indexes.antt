@@ -1,5 +1,5 @@
 -- What the indexes of a log have.
-use Rattle.std.specs.Prelude.{◌≡◌, ℕ, ◌==◌, ◌&&◌, Bool, false, ◌<◌, nat_eq, if◌then◌else◌, List, [], length, Option, Some, None}
+use Rattle.std.specs.Prelude.{◌≡◌, ℕ, ◌==◌, ◌&&◌, Bool, false, ◌<◌, nat_eq, if◌then◌else◌, List, [], length, Some, None}
 use Rattle.std.specs.List.{list_any}
 use Rattle.std.specs.HashMap as hash
 use Rattle.std.specs.HashMap.{hash_map_len}

@@ -13,3 +13,7 @@ pub mod Programmes
 pub mod Outer
 pub mod LogView
 pub mod Indexes
+pub mod Logged
+pub mod Homes
+pub mod Deletions
+pub mod Steps

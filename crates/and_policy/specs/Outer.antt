@@ -1,5 +1,5 @@
 -- Outer packets: IPv4 (RFC 791, section 3.1), UDP (RFC 768) and VXLAN (RFC 7348, section 5) before a frame. All numbers are in network byte order.
-use Rattle.std.specs.Prelude.{ℕ, zero, suc, ◌+◌, ◌-◌, ◌*◌, ◌/◌, ◌%◌, ◌^◌, ◌==◌, Bool, true, false, nat_lt, if◌then◌else◌, List, [], ◌∷◌, ◌++◌, length}
+use Rattle.std.specs.Prelude.{ℕ, zero, suc, ◌+◌, ◌-◌, ◌*◌, ◌/◌, ◌%◌, ◌==◌, Bool, nat_lt, if◌then◌else◌, List, [], ◌∷◌, ◌++◌, length}
 use Rattle.and_policy.specs.Numbers.{bytes_of}
 
 -- the 16-bit words added as whole numbers, with a zero byte added to an odd length

@@ -1,5 +1,5 @@
 -- Who has an address, and where it is.
-use Rattle.std.specs.Prelude.{ℕ, ◌==◌, ◌&&◌, Bool, if◌then◌else◌, List, [], ◌∷◌, Option, Some, None, option_map}
+use Rattle.std.specs.Prelude.{ℕ, ◌==◌, ◌&&◌, if◌then◌else◌, List, [], ◌∷◌, Option, Some, None, option_map}
 use Rattle.std.specs.List.{find}
 use Rattle.and_policy.specs.declared.entry.Entry.{Entry}
 use Rattle.and_policy.specs.declared.entry.Entry.TheVariants.{AddVm, Place}
@@ -10,7 +10,7 @@ use Rattle.and_policy.specs.declared.decision.Routed.{Routed}
 use Rattle.and_policy.specs.declared.decision.Routed.TheVariants as routeds
 use Rattle.and_policy.specs.declared.decision.Located.{Located}
 use Rattle.and_policy.specs.declared.decision.Located.TheVariants as locateds
-use Rattle.and_policy.specs.Logs.{Vm, vms}
+use Rattle.and_policy.specs.Logs.{vms}
 use Rattle.and_policy.specs.Routes.{route}
 
 -- the live VM of the network with this address. In a log there is at most one

@@ -29,7 +29,8 @@ pub struct Index {
 fn put(map: &mut HashMap<u32, u32>, key: u32, value: u32)
     requires { 0 < hash.spare map.old }
     ensures updates { hash.Updates nat_eq map.old map.new key (Some value) }
-    ensures len { hash_map_len map.new ≡ hash_map_len map.old + (if is_some (hash.get nat_eq map.old key) then 0 else 1) }
+    ensures len { let was = is_some (hash.get nat_eq map.old key) in
+        hash_map_len map.new ≡ hash_map_len map.old + (if was then 0 else 1) }
 {
     let put: Result<_, _> = map.insert(key, value);
     let _ = put.unwrap();
@@ -84,7 +85,8 @@ impl Index {
     /// Adds a network that is not there.
     pub(crate) fn add_net(&mut self, net: u32)
         requires { HasRoom self.old }
-        ensures { (k : List Entry) → IsIndex self.old k → has_net k net ≡ false → IsIndex self.new (k ++ AddNet net ∷ []) }
+        ensures { (k : List Entry) → IsIndex self.old k → has_net k net ≡ false
+            → IsIndex self.new (k ++ AddNet net ∷ []) }
     {
         put(&mut self.nets, net, 0);
     }
@@ -92,7 +94,9 @@ impl Index {
     /// Adds a VM that was not there.
     pub(crate) fn add_vm(&mut self, vm: u32, net: u32, mac: u64, ip: u32)
         requires { HasRoom self.old }
-        ensures { (k : List Entry) (host : ℕ) → IsIndex self.old k → list_any (λ v. v.number == vm) (added k) ≡ false → IsIndex self.new (k ++ AddVm vm net mac ip host ∷ []) }
+        ensures { (k : List Entry) (host : ℕ) → IsIndex self.old k
+            → list_any (λ v. v.number == vm) (added k) ≡ false
+            → IsIndex self.new (k ++ AddVm vm net mac ip host ∷ []) }
     {
         add(&mut self.vms, vm);
         add(&mut self.macs, mac);
@@ -103,7 +107,8 @@ impl Index {
     pub(crate) fn add_rule(&mut self, net: u32, number: u32)
         requires room { HasRoom self.old }
         requires few { IfSome (get nat_eq self.old.nets net) (λ count. count < 256) }
-        ensures { (k : List Entry) (rule : Rule) → rule.number ≡ number → IsIndex self.old k → has_net k net ≡ true → IsIndex self.new (k ++ AddRule net rule ∷ []) }
+        ensures { (k : List Entry) (rule : Rule) → rule.number ≡ number → IsIndex self.old k
+            → has_net k net ≡ true → IsIndex self.new (k ++ AddRule net rule ∷ []) }
     {
         let count = self.nets.get(&net).copied().unwrap_or(0);
         put(&mut self.nets, net, count + 1);

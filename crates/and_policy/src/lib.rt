@@ -11,7 +11,10 @@ mod index;
 mod log;
 mod memory;
 mod packet;
+pub mod plain;
 mod port;
+mod tables;
+mod underlay;
 
 pub use decision::{
     Decision, Dest, Exit, GateDecision, Landing, Leaving, Located, Name, Outcome, Routed, Routing,
@@ -22,3 +25,8 @@ pub use log::Log;
 pub use memory::NoMemory;
 pub use packet::{Fields, Skip, Tuple};
 pub use port::{Port, UsageKey};
+pub use tables::{Batch, Tables};
+pub use underlay::{flow_hash, host_address, redirect_address, route_address};
+
+#[cfg(test)]
+mod tests;

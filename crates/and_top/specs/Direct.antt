@@ -1,9 +1,8 @@
 -- What becomes of each packet on one host, straight from the policy under the log before its send.
-use Rattle.std.specs.Prelude.{ℕ, ◌+◌, Bool, true, false, List, [], ◌∷◌, ◌++◌, Option, Some, None, length, map}
+use Rattle.std.specs.Prelude.{ℕ, Bool, true, false, List, [], ◌∷◌, ◌++◌}
 use Rattle.std.specs.List.{sum_by, count_by}
 use Rattle.and_policy.specs.declared.entry.Entry.{Entry}
 use Rattle.and_policy.specs.declared.packet.Tuple.{Tuple}
-use Rattle.and_policy.specs.declared.decision.Name.{Name}
 use Rattle.and_policy.specs.declared.decision.Exit.{Exit}
 use Rattle.and_policy.specs.declared.decision.Exit.TheVariants as exits
 use Rattle.and_policy.specs.declared.decision.Landing.{Landing}

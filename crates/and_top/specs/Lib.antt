@@ -1,3 +1,12 @@
 pub mod FirstForm
 pub mod Direct
 pub mod Report
+pub mod Plans
+pub mod Outside
+pub mod Telling
+pub mod Words
+pub mod Names
+pub mod Pieces
+pub mod Inputs
+pub mod Answers
+pub mod Statuses

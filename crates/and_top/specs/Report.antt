@@ -1,8 +1,7 @@
 -- The text of the report. Each line is a count over the packets' fates.
-use Rattle.std.specs.Prelude.{ℕ, zero, suc, ◌+◌, ◌==◌, ◌&&◌, ◌||◌, Bool, true, false, nat_lt, if◌then◌else◌, List, [], ◌∷◌, ◌++◌, length, map, codes, Option, Some, None, slice_index_or}
-use Rattle.std.specs.List.{count_by, filter_map, concat, flat_map, fold, list_any}
+use Rattle.std.specs.Prelude.{ℕ, suc, ◌==◌, ◌&&◌, ◌||◌, Bool, true, false, nat_lt, if◌then◌else◌, List, [], ◌∷◌, ◌++◌, length, codes, Option, Some, None}
+use Rattle.std.specs.List.{count_by, filter_map, concat, flat_map, list_any}
 use Rattle.std.specs.Fmt.{decimal}
-use Rattle.and_policy.specs.declared.packet.Skip.{Skip}
 use Rattle.and_policy.specs.declared.packet.Skip.TheVariants as skips
 use Rattle.and_policy.specs.declared.entry.EntryFault.{EntryFault}
 use Rattle.and_policy.specs.declared.entry.EntryFault.TheVariants as entry_faults

@@ -138,3 +138,93 @@ pub fn read_frame(frame: &[u8]) -> Result<Fields, Skip>
         },
     })
 }
+
+#[cfg(test)]
+mod tests {
+    use super::*;
+
+    // TCP from 10.0.0.1 port 4096 to 10.0.0.2 port 80.
+    const F1: [u8; 54] = [
+        0x02, 0x00, 0x00, 0x00, 0x00, 0x02, 0x02, 0x00, 0x00, 0x00, 0x00, 0x01, 0x08, 0x00, 0x45,
+        0x00, 0x00, 0x28, 0x00, 0x00, 0x40, 0x00, 0x40, 0x06, 0x26, 0xce, 0x0a, 0x00, 0x00, 0x01,
+        0x0a, 0x00, 0x00, 0x02, 0x10, 0x00, 0x00, 0x50, 0x00, 0x00, 0x00, 0x01, 0x00, 0x00, 0x00,
+        0x00, 0x50, 0x02, 0x20, 0x00, 0x00, 0x00, 0x00, 0x00,
+    ];
+
+    // What `read_frame` answers of F1's ports with this type, first byte of the IPv4 header, total length and flags.
+    #[derive(Debug, Clone, Copy)]
+    struct Case {
+        kind: u16,
+        version: u8,
+        total: u16,
+        flags: u16,
+        answer: Result<(u16, u16), Skip>,
+    }
+
+    const fn row(
+        kind: u16,
+        version: u8,
+        total: u16,
+        flags: u16,
+        answer: Result<(u16, u16), Skip>,
+    ) -> Case {
+        Case {
+            kind,
+            version,
+            total,
+            flags,
+            answer,
+        }
+    }
+
+    fn ports(frame: &[u8]) -> Result<(u16, u16), Skip> {
+        let fields = read_frame(frame)?;
+        Ok((fields.tuple.source_port, fields.tuple.destination_port))
+    }
+
+    #[test]
+    fn fields_of_a_frame(rt: HostRuntime) {
+        let tuple = Tuple {
+            protocol: 6,
+            source: 0x0a00_0001,
+            destination: 0x0a00_0002,
+            source_port: 4096,
+            destination_port: 80,
+        };
+        assert_eq!(rt;
+            read_frame(&F1),
+            Ok(Fields {
+                source_mac: 0x0200_0000_0001,
+                tuple
+            })
+        );
+    }
+
+    #[test]
+    fn hostile_frames(rt: HostRuntime) {
+        assert_eq!(rt; read_frame(&F1[..13]), Err(Skip::Short));
+        assert_eq!(rt; read_frame(&F1[..14]), Err(Skip::Cut));
+        assert_eq!(rt; read_frame(&[0; 65_499]), Err(Skip::NotIp4));
+        assert_eq!(rt; read_frame(&[0; 65_500]), Err(Skip::TooLong));
+        let cases = [
+            row(0x0806, 0x45, 0x28, 0x4000, Err(Skip::NotIp4)),
+            row(0x0800, 0x44, 0x28, 0x4000, Err(Skip::BadIp4)),
+            row(0x0800, 0x65, 0x28, 0x4000, Err(Skip::BadIp4)),
+            row(0x0800, 0x45, 0x13, 0x4000, Err(Skip::BadIp4)),
+            row(0x0800, 0x45, 0x17, 0x4000, Err(Skip::ShortPorts)),
+            row(0x0800, 0x45, 0x29, 0x4000, Err(Skip::Cut)),
+            row(0x0800, 0x45, 0x00, 0x4000, Ok((4096, 80))),
+            row(0x0800, 0x45, 0x14, 0x2001, Ok((0, 0))),
+            row(0x0800, 0x45, 0x28, 0x2000, Ok((0, 0))),
+            row(0x0800, 0x45, 0x28, 0x0001, Ok((0, 0))),
+        ];
+        for case in &cases {
+            let mut frame = F1;
+            BigEndian::write_u16(&mut frame[12..], case.kind);
+            frame[14] = case.version;
+            BigEndian::write_u16(&mut frame[16..], case.total);
+            BigEndian::write_u16(&mut frame[20..], case.flags);
+            assert_eq!(rt; ports(&frame), case.answer);
+        }
+    }
+}

@@ -1,7 +1,5 @@
-use Rattle.std.proofs.Common.{◌≡◌, ◌∙◌, ℕ, unwrap_or, nat_eq, ap, subst}
+use Rattle.std.proofs.Common.{◌≡◌, ◌∙◌, unwrap_or, nat_eq, ap}
 use Rattle.std.specs.HashMap as hash
-use Rattle.std.specs.HashSet as bag
-use Rattle.and_policy.specs.Indexes.{pair_eq}
 use Rattle.and_policy.proofs.Indexing.{index-rule}
 use Rattle.and_policy.proofs.index.Index.add_rule.Goals as goal
 

@@ -1,6 +1,5 @@
-use Rattle.std.proofs.Common.{◌≡◌, ℕ, refl, Option, List, [], ◌∷◌, ◌++◌, Some, None, sym, subst}
+use Rattle.std.proofs.Common.{◌≡◌, ℕ, refl, Option, List, Some, None, sym, subst}
 use Rattle.and_policy.specs.declared.entry.Entry.{Entry}
-use Rattle.and_policy.specs.declared.entry.Entry.TheVariants.{AddNet, AddVm, AddRule}
 use Rattle.and_policy.specs.Fitting.{fits}
 use Rattle.and_policy.specs.LogView.{LogView}
 use Rattle.and_policy.proofs.Logging.{closing, no_other, fits-net, fits-vm, fits-rule}

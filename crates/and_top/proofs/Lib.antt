@@ -1,0 +1,4 @@
+pub mod Completing
+pub mod Failing
+pub mod PlansLemmas
+pub mod Puts

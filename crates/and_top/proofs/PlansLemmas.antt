@@ -1,0 +1,10 @@
+-- Stub.
+use Rattle.std.proofs.Common.{◌≡◌, ℕ, List, Ok}
+use Rattle.and_capture.specs.declared.capture.Capture.{Capture}
+use Rattle.and_capture.specs.Reading.{reading}
+use Rattle.and_events.specs.declared.plan.Scenario.{Scenario}
+use Rattle.and_top.specs.FirstForm.{IsFirstForm}
+use Rattle.and_top.specs.Plans.{CanPlan}
+
+pub can_plan : (hosts : ℕ) (text file : List ℕ) (scenario : Scenario) (capture : Capture) → IsFirstForm hosts text scenario → reading file ≡ Ok capture → CanPlan scenario capture
+can_plan hosts text file scenario capture form read = form.items

@@ -1,0 +1,66 @@
+//! What the top call is asked for, and how it can fail.
+
+use and_capture::CaptureFault;
+
+/// Why bytes were not read as a scenario.
+#[derive(Debug, Clone, Copy, PartialEq, Eq)]
+pub enum ScenarioFault {
+    /// They are no scenario of the kind that the program takes so far.
+    NotBuilt,
+    /// Memory ran out.
+    NoMemory,
+}
+
+/// A file of a job, or its report.
+#[derive(Debug, Clone, Copy, PartialEq, Eq)]
+pub enum Which {
+    /// The scenario, which is read.
+    Scenario,
+    /// The capture, which is read.
+    Capture,
+    /// The trace of the run.
+    Trace,
+    /// The capture of all frames that were delivered.
+    Delivered,
+    /// The capture of all packets of the underlay.
+    Underlay,
+    /// The report, which goes to the sink.
+    Report,
+}
+
+/// Why a job was not done: the first failure in the order of the work.
+#[derive(Debug, Clone, Copy, PartialEq, Eq)]
+pub enum Fault {
+    /// The scenario was refused.
+    Scenario(ScenarioFault),
+    /// The capture was refused.
+    Capture(CaptureFault),
+    /// A file could not be read.
+    Read(Which),
+    /// A file or the report could not be written.
+    Write(Which),
+    /// A file is longer than its limit.
+    TooLong(Which),
+    /// Memory ran out, wherever that was.
+    NoMemory,
+}
+
+/// In which order the actors take their turns.
+#[derive(Debug, Clone, Copy, PartialEq, Eq)]
+pub enum Turns {
+    /// The enabled actor with the smallest number acts.
+    Plain,
+}
+
+/// What to replay.
+#[derive(Debug, Drop)]
+pub struct Job {
+    /// The name of the scenario's file.
+    pub scenario: String,
+    /// The name of the capture's file.
+    pub capture: String,
+    /// What the names of all files that are written begin with.
+    pub out: String,
+    /// The order of the turns.
+    pub turns: Turns,
+}

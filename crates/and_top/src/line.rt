@@ -1,0 +1,37 @@
+//! A line for the user, in pieces.
+ghost use Rattle.std.specs.Prelude.{◌≡◌, ◌≤◌, ◌++◌, List, ℕ};
+ghost use Rattle.std.specs.Bool.{OnTrue, OnFalse};
+ghost use Rattle.and_top.specs.Telling.{Tells, Wrote, WrotePart, stream};
+ghost use Rattle.and_top.specs.Pieces.{text_of};
+
+use and_outside::Sink;
+
+/// A text in three pieces, so that none of it has to be copied.
+#[derive(Debug, Clone, Copy)]
+pub struct Line<'a> {
+    pub head: &'a str,
+    pub name: &'a str,
+    pub tail: &'a str,
+}
+
+/// Puts one piece, and says whether that was done.
+fn put<E: Sink>(err: &mut E, text: &str) -> bool
+    ensures done { OnTrue result (Wrote text.now (stream E.faults E.written err.old) (stream E.faults E.written err.new)) }
+    ensures part { OnFalse result (WrotePart text.now (stream E.faults E.written err.old) (stream E.faults E.written err.new)) }
+    ensures counts { E.faults err.old ≤ E.faults err.new }
+{
+    err.put(text.as_bytes()).is_ok()
+}
+
+/// Puts the text. Where a piece of it fails, a prefix of the text was put.
+pub fn tell<E: Sink>(err: &mut E, line: &Line<'_>)
+    ensures { Tells (text_of line.now) (stream E.faults E.written err.old) (stream E.faults E.written err.new) }
+{
+    if !put(err, line.head) {
+        return;
+    }
+    if !put(err, line.name) {
+        return;
+    }
+    put(err, line.tail);
+}

@@ -1,6 +1,6 @@
 //! Offload orders of a programme.
-ghost use Rattle.std.specs.Prelude.{◌≡◌, ◌<◌, ◌==◌, ◌&&◌, ◌∷◌, Option, option_map};
-ghost use Rattle.std.specs.List.{find, list_any};
+ghost use Rattle.std.specs.Prelude.{◌≡◌, ◌<◌, ◌∷◌, Option, option_map};
+ghost use Rattle.std.specs.List.{list_any};
 ghost use Rattle.and_policy.specs.Egress.{egress};
 ghost use Rattle.and_policy.specs.Homes.{home_of};
 ghost use Rattle.and_policy.specs.Logs.{Vm, vm_of};

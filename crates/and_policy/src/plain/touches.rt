@@ -1,5 +1,5 @@
 //! What touches a network: its entries, its orders, and what ends its orders.
-ghost use Rattle.std.specs.Prelude.{◌≡◌, ◌<◌, ◌≤◌, ◌==◌, ◌&&◌, ◌||◌, ◌∷◌, ◌-◌, not, length, slice_get};
+ghost use Rattle.std.specs.Prelude.{◌≡◌, ◌<◌, ◌≤◌, ◌||◌, ◌∷◌, ◌-◌, length, slice_get};
 ghost use Rattle.std.specs.List.{list_any};
 ghost use Rattle.and_policy.specs.Programmes as spec;
 ghost use Rattle.and_policy.specs.Steps.{log_of, living_in, is_one_gone};

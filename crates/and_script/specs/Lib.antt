@@ -2,3 +2,4 @@ pub mod Words
 pub mod Forms
 pub mod Tables
 pub mod Grammar
+pub mod Answers

@@ -2,7 +2,13 @@
 use Rattle.std.specs.Prelude.{ℕ, Bool, true, false, if◌then◌else◌, List, [], ◌∷◌, ◌++◌, Option, Some, None, codes, bytes_eq}
 use Rattle.serde_json.specs.Data.{Data}
 use Rattle.serde_json.specs.Find.{get, as_str}
-use Rattle.and_script.specs.Forms.{Form, Whole, VmName, Mac, Ip, Cidr, Protocol, Ports, OnSide, Action, Truth, TargetKind, NodeName, HoldKind, Script, Given, Number, Absent, Within, OfProtocol, Between, Allows}
+use Rattle.and_script.specs.declared.tables.Form.{Form}
+use Rattle.and_script.specs.declared.tables.Form.TheVariants.{Whole, Priority, VmName, Mac, Ip, Cidr, Protocol, Ports, OnSide, Action, Truth, TargetKind, NodeName, HoldKind, Script}
+use Rattle.and_script.specs.declared.tables.Given.{Given}
+use Rattle.and_script.specs.declared.tables.Given.TheVariants.{Number, Absent, Within, OfProtocol, Between, Allows}
+use Rattle.and_script.specs.declared.tables.Command.{Command}
+use Rattle.and_script.specs.declared.tables.Command.TheVariants.{AddNet, AddVm, RemoveVm, AddRule, DelRule, AddRoute, DelRoute, Tick, Wait, Send, Blackout, Resume, Hold, Free}
+use Rattle.and_script.specs.declared.tables.Row as source
 
 -- a field: its name, its form, and what it gives where it is left out; none where it may not be
 pub record Row : Type 0 where
@@ -10,13 +16,17 @@ pub record Row : Type 0 where
   pub form : Form
   pub default : Option Given
 
+-- the row that the code has
+abbrev pub row_view : source.Row → Row
+row_view r = record { name = r.name.now; form = r.form; default = r.default }
+
 abbrev pub required : List ℕ → Form → Row
 required name form = record { name = name; form = form; default = None }
 
 abbrev pub optional : List ℕ → Form → Given → Row
 optional name form given = record { name = name; form = form; default = Some given }
 
-abbrev pub top_rows : List Row
+unfoldable pub top_rows : List Row
 top_rows =
     required (codes "hosts") (Whole 1 64)
     ∷ required (codes "gateways") (Whole 1 8)
@@ -30,23 +40,7 @@ top_rows =
     ∷ required (codes "script") Script
     ∷ []
 
--- what an item does
-pub data Command : Type 0 where
-  AddNet : Command
-  AddVm : Command
-  RemoveVm : Command
-  AddRule : Command
-  DelRule : Command
-  AddRoute : Command
-  DelRoute : Command
-  Tick : Command
-  Wait : Command
-  Send : Command
-  Blackout : Command
-  Resume : Command
-  Hold : Command
-  Free : Command
-
+-- what an item does, by its text
 abbrev pub commands : List (List ℕ × Command)
 commands =
     (codes "add_net", AddNet) ∷ (codes "add_vm", AddVm) ∷ (codes "remove_vm", RemoveVm) ∷ (codes "add_rule", AddRule)
@@ -93,23 +87,24 @@ abbrev pub has_peer : Data → Bool
 has_peer d = is_text (codes "peer") (text_in (get (codes "target") d))
 
 -- the fields of an item beside `do`. A route has a peer exactly where its target is the text `peer`
-abbrev pub item_rows : Command → Data → List Row
-item_rows AddNet d = net_row ∷ []
-item_rows AddVm d = vm_row ∷ net_row ∷ required (codes "mac") Mac ∷ required (codes "ip") Ip ∷ host_row ∷ []
-item_rows RemoveVm d = vm_row ∷ []
-item_rows AddRule d =
-    net_row ∷ number_row ∷ required (codes "priority") (Whole 0 65535) ∷ required (codes "side") OnSide ∷ required (codes "action") Action
+abbrev pub item_rows : Command → Bool → List Row
+item_rows AddNet peer = net_row ∷ []
+item_rows AddVm peer = vm_row ∷ net_row ∷ required (codes "mac") Mac ∷ required (codes "ip") Ip ∷ host_row ∷ []
+item_rows RemoveVm peer = vm_row ∷ []
+item_rows AddRule peer =
+    net_row ∷ number_row ∷ required (codes "priority") Priority ∷ required (codes "side") OnSide ∷ required (codes "action") Action
     ∷ optional (codes "protocol") Protocol (OfProtocol None) ∷ prefix_row (codes "source") ∷ prefix_row (codes "destination")
     ∷ ports_row (codes "source_ports") ∷ ports_row (codes "destination_ports") ∷ optional (codes "sealed") Truth (Allows false) ∷ []
-item_rows DelRule d = net_row ∷ number_row ∷ []
-item_rows AddRoute d =
+item_rows DelRule peer = net_row ∷ number_row ∷ []
+item_rows AddRoute true =
     net_row ∷ number_row ∷ required (codes "prefix") Cidr ∷ required (codes "target") TargetKind
-    ∷ (if has_peer d then required (codes "peer") (Whole 1 16777215) ∷ [] else [])
-item_rows DelRoute d = net_row ∷ number_row ∷ []
-item_rows Tick d = []
-item_rows Wait d = []
-item_rows Send d = optional (codes "frames") (Whole 1 100000) Absent ∷ []
-item_rows Blackout d = vm_row ∷ host_row ∷ []
-item_rows Resume d = vm_row ∷ []
-item_rows Hold d = required (codes "node") NodeName ∷ required (codes "what") HoldKind ∷ []
-item_rows Free d = required (codes "node") NodeName ∷ required (codes "what") HoldKind ∷ []
+    ∷ required (codes "peer") (Whole 1 16777215) ∷ []
+item_rows AddRoute false = net_row ∷ number_row ∷ required (codes "prefix") Cidr ∷ required (codes "target") TargetKind ∷ []
+item_rows DelRoute peer = net_row ∷ number_row ∷ []
+item_rows Tick peer = []
+item_rows Wait peer = []
+item_rows Send peer = optional (codes "frames") (Whole 1 100000) Absent ∷ []
+item_rows Blackout peer = vm_row ∷ host_row ∷ []
+item_rows Resume peer = vm_row ∷ []
+item_rows Hold peer = required (codes "node") NodeName ∷ required (codes "what") HoldKind ∷ []
+item_rows Free peer = required (codes "node") NodeName ∷ required (codes "what") HoldKind ∷ []

@@ -1,0 +1,4 @@
+pub mod PortLists
+pub mod NameLists
+pub mod ItemLists
+pub mod Whole

@@ -1,5 +1,5 @@
 -- What was wrapped is read again.
-use Rattle.std.proofs.Common.{◌≡◌, ℕ, ◌+◌, ◌-◌, ◌/◌, ◌%◌, ◌^◌, ◌<◌, ◌≤◌, true, false, eqb, ltb, List, [], ◌∷◌, length, take, Option, None, Ok, refl, sym, ap, ◌∙◌, arith, eq-eqb}
+use Rattle.std.proofs.Common.{◌≡◌, ℕ, ◌+◌, ◌-◌, ◌/◌, ◌%◌, ◌<◌, ◌≤◌, true, false, eqb, ltb, List, [], ◌∷◌, length, take, Option, None, Ok, refl, sym, ap, ◌∙◌, arith, eq-eqb}
 use Rattle.std.specs.Prelude.{not, slice_index}
 use Rattle.std.specs.Int.{byte_at}
 use Rattle.std.proofs.lemmas.Bool.{le-ltb}
@@ -9,18 +9,10 @@ use Rattle.and_policy.specs.Numbers.{number_from, bytes_of}
 use Rattle.and_policy.specs.Outer.{Envelope, words_sum, ones_sum, ip_header, outer_packet}
 use Rattle.and_parcel.specs.declared.outer.Outer.{Outer}
 use Rattle.and_parcel.specs.declared.outer.WrapFault.{WrapFault}
-use Rattle.and_parcel.specs.Parcels.{envelope}
+use Rattle.and_parcel.specs.Parcels.{envelope, IsInRange}
 use Rattle.and_parcel.specs.Reading.{checksum_field, outer_checks, said, reading}
 use Rattle.and_parcel.proofs.Sums.{with_checksum}
 use Rattle.and_parcel.proofs.Headers.{pieces, packet_is}
-
--- the numbers of an outer fit their types
-pub record IsInRange (o : Outer) : Type 0 where
-  pub source : o.source < 2 ^ 32
-  pub destination : o.destination < 2 ^ 32
-  pub ttl : o.ttl < 2 ^ 8
-  pub vni : o.vni < 2 ^ 24
-  pub source_port : o.source_port < 2 ^ 16
 
 -- bytes that pass every check
 record PassesChecks (bytes : List ℕ) : Type 0 where

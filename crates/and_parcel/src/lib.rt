@@ -19,7 +19,7 @@ mod sum;
 mod tests;
 
 pub use and_policy::NoMemory;
-pub use outer::{Outer, WrapFault, read_outer};
+pub use outer::{Outer, WrapFault, outer_packets_read_back, read_outer};
 pub use parcel::Parcel;
 pub use port::entropy_port;
 pub use queue::ParcelQueue;

@@ -2,6 +2,7 @@
 ghost use Rattle.std.specs.Prelude.{◌≡◌, ◌+◌, ◌≤◌, ◌==◌, length, slice_index, IsTrue, take, drop};
 ghost use Rattle.and_policy.specs.Numbers.{number_from};
 ghost use Rattle.and_parcel.specs.Reading.{reading, covered, said};
+ghost use Rattle.and_parcel.specs.Parcels.{ReadsBack};
 ghost use Rattle.and_policy.specs.Outer as sums;
 
 use crate::sum::{folded, ones_sum, words_sum};
@@ -131,3 +132,9 @@ pub fn read_outer(bytes: &[u8]) -> Result<Outer, WrapFault>
     }
     Ok(outer_of(bytes))
 }
+
+/// Law: what the headers of an outer packet without a UDP checksum say is read of it, for every frame that fits.
+/// Whoever gets a packet that was sent so reads what was sent.
+pub fn outer_packets_read_back()
+    ensures { ReadsBack }
+{}

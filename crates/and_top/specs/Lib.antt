@@ -2,6 +2,8 @@ pub mod FirstForm
 pub mod Direct
 pub mod Report
 pub mod Plans
+pub mod Sources
+pub mod Planners
 pub mod Outside
 pub mod Telling
 pub mod Words

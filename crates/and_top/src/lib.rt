@@ -9,10 +9,12 @@ mod first_form;
 mod inputs;
 mod line;
 mod plan;
+mod planner;
 mod replaying;
 #[cfg(test)]
 mod tests;
 mod words;
+mod written;
 
 pub use answers::{Fault, Job, ScenarioFault, Turns, Which};
 pub use commands::andromeda;

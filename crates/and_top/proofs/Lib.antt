@@ -5,3 +5,5 @@ pub mod Planning
 pub mod PlansLemmas
 pub mod Puts
 pub mod Sourcing
+pub mod Texts
+pub mod Counting

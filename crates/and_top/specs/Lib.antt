@@ -12,3 +12,6 @@ pub mod Pieces
 pub mod Inputs
 pub mod Answers
 pub mod Statuses
+pub mod Rows
+pub mod Counts
+pub mod Lists

@@ -4,13 +4,18 @@
 mod answers;
 mod captures;
 mod commands;
+mod counts;
 mod direct;
+mod fate;
 mod first_form;
 mod inputs;
 mod line;
+mod lists;
 mod plan;
 mod planner;
 mod replaying;
+mod rows;
+mod skips;
 #[cfg(test)]
 mod tests;
 mod words;

@@ -11,19 +11,8 @@ use Rattle.and_events.specs.declared.plan.ItemFault.TheVariants as item_faults
 use Rattle.and_events.specs.declared.plan.SkipReason.{SkipReason}
 use Rattle.and_events.specs.declared.plan.SkipReason.TheVariants as reasons
 use Rattle.and_events.specs.declared.plan.Plan.{Plan}
-
--- what became of a packet
-pub data Fate : Type 0 where
-  Delivered : (vm : ℕ) → Fate
-  Spoofed : Fate
-  NoVm : Fate
-  NoOwner : Fate
-  EgressDenied : (net number : ℕ) → Fate
-  IngressDenied : (net number : ℕ) → Fate  -- number 0 is the implied verdict; rules count from 1
-  RouteDropped : (net number : ℕ) → Fate
-  InBlackout : Fate
-  AtFullQueue : Fate
-  OutOfHops : Fate
+use Rattle.and_top.specs.declared.fate.Fate.{Fate}
+use Rattle.and_top.specs.declared.fate.Fate.TheVariants.{Delivered, Spoofed, NoVm, NoOwner, EgressDenied, IngressDenied, RouteDropped, InBlackout, AtFullQueue, OutOfHops}
 
 -- what a run is counted by
 pub record Tally : Type 0 where

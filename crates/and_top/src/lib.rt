@@ -5,11 +5,14 @@ mod answers;
 mod captures;
 mod commands;
 mod direct;
+mod directs;
+mod fate;
 mod first_form;
 mod inputs;
 mod line;
 mod plan;
 mod planner;
+mod policy;
 mod replaying;
 #[cfg(test)]
 mod tests;

@@ -18,3 +18,9 @@ pub item_text : (number name : List ℕ) → ((codes "item " ++ number) ++ 32 �
 item_text number name =
     let head : List ℕ → List ℕ = λ l. codes "item " ++ l in
     ap head (append_assoc number (32 ∷ []) (name ++ 10 ∷ []) ∙ sym (append_assoc number (32 ∷ name) (10 ∷ [])))
+
+-- the line of a VM
+pub vm_text : (name sent received : List ℕ) →
+    (codes "vm " ++ name) ++ ((((codes " sent " ++ sent) ++ codes " received ") ++ received) ++ 10 ∷ [])
+    ≡ (codes "vm" ++ 32 ∷ (name ++ 32 ∷ (codes "sent" ++ 32 ∷ (sent ++ 32 ∷ (codes "received" ++ 32 ∷ received))))) ++ 10 ∷ []
+vm_text name sent received = simp append_assoc refl

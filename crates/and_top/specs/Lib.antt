@@ -4,6 +4,7 @@ pub mod Report
 pub mod Plans
 pub mod Sources
 pub mod Planners
+pub mod Policies
 pub mod Outside
 pub mod Telling
 pub mod Words

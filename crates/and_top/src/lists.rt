@@ -1,9 +1,9 @@
 //! The lines of refused items and of VMs.
 ghost use Rattle.std.specs.Prelude.{◌≡◌, ◌++◌, ◌==◌, ◌≤◌, ◌^◌, length, OnOk};
 ghost use Rattle.std.specs.List.{flat_map, list_any, count_by};
-ghost use Rattle.and_policy.specs.Logs.{added};
 ghost use Rattle.and_top.specs.Report as report;
-ghost use Rattle.and_top.specs.Lists.{adds_vm, tally_with};
+ghost use Rattle.and_top.specs.Direct.{tally_of};
+ghost use Rattle.and_top.specs.Lists.{adds_vm, vm_counted};
 
 use crate::fate::Fate;
 use crate::rows::put;
@@ -72,29 +72,83 @@ pub(crate) fn put_items(
 }
 
 /// Whether an entry of the log adds the VM.
-fn is_added(log: &[Entry], vm: u32) -> bool
+fn is_added(log: &[Entry], vm: usize) -> bool
     ensures { result ≡ list_any (adds_vm vm) log.now }
 {
     log.iter().any(|entry| match entry {
-        Entry::AddVm { vm: v, .. } => *v == vm,
+        Entry::AddVm { vm: v, .. } => *v as usize == vm,
         _ => false,
     })
 }
 
-fn sent_by(packets: &[Packet], vm: u32) -> usize
+fn sent_by(packets: &[Packet], vm: usize) -> usize
     ensures { result ≡ count_by (λ p. p.vm == vm) packets.now }
 {
-    packets.iter().filter(|p| p.vm == vm).count()
+    packets.iter().filter(|p| p.vm as usize == vm).count()
 }
 
-fn received_by(fates: &[Fate], vm: u32) -> usize
+fn received_by(fates: &[Fate], vm: usize) -> usize
     ensures { result ≡ count_by (report.is_received vm) fates.now }
 {
     fates
         .iter()
         .filter(|fate| match fate {
-            Fate::Delivered { vm: v } => *v == vm,
+            Fate::Delivered { vm: v } => *v as usize == vm,
             _ => false,
         })
         .count()
+}
+
+#[tactic(auto, using(crate::proofs::Texts::vm_text, crate::proofs::Texts::after_both))]
+fn put_counted_vm(
+    alloc: Global,
+    name: &[u8],
+    sent: usize,
+    received: usize,
+    text: &mut Vec<u8>,
+) -> Result<(), NoMemory>
+    ensures { OnOk result (text.new.items ≡ text.old.items ++ vm_counted name.now sent received) }
+{
+    put(text, b"vm ")?;
+    put(text, name)?;
+    match format!(in alloc; " sent {sent} received {received}\n") {
+        Ok(line) => put(text, line.as_bytes()),
+        Err(_) => Err(NoMemory),
+    }
+}
+
+#[tactic(auto, using(crate::proofs::Lists::added_adds))]
+fn put_vm(
+    alloc: Global,
+    vm: usize,
+    name: &Bytes,
+    plan: &Plan,
+    fates: &[Fate],
+    text: &mut Vec<u8>,
+) -> Result<(), NoMemory>
+    ensures { OnOk result (text.new.items ≡ text.old.items ++ report.vm_line plan.now (tally_of fates.now) vm name.now) }
+{
+    if !is_added(plan.log.as_slice(), vm) {
+        return Ok(());
+    }
+    let sent = sent_by(plan.packets.as_slice(), vm);
+    let received = received_by(fates, vm);
+    put_counted_vm(alloc, name.as_bytes(), sent, received, text)
+}
+
+/// Puts the lines of the VMs that the log adds, by number.
+pub(crate) fn put_vms(
+    alloc: Global,
+    plan: &Plan,
+    fates: &[Fate],
+    text: &mut Vec<u8>,
+) -> Result<(), NoMemory>
+    ensures { OnOk result (text.new.items ≡ text.old.items ++ report.vm_lines plan.now (tally_of fates.now) 0 plan.now.names) }
+{
+    let mut vm = 0usize;
+    for name in plan.names.as_slice() {
+        put_vm(alloc, vm, name, plan, fates, text)?;
+        vm += 1;
+    }
+    Ok(())
 }

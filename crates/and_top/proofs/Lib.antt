@@ -9,4 +9,4 @@ pub mod Puts
 pub mod Sourcing
 pub mod Texts
 pub mod Counting
-pub mod Lists
+pub mod AddedVms

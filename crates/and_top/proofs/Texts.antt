@@ -24,3 +24,18 @@ pub vm_text : (name sent received : List ℕ) →
     (codes "vm " ++ name) ++ ((((codes " sent " ++ sent) ++ codes " received ") ++ received) ++ 10 ∷ [])
     ≡ (codes "vm" ++ 32 ∷ (name ++ 32 ∷ (codes "sent" ++ 32 ∷ (sent ++ 32 ∷ (codes "received" ++ 32 ∷ received))))) ++ 10 ∷ []
 vm_text name sent received = simp append_assoc refl
+
+-- the names of keyed lines
+pub egress_words : (net number : List ℕ) →
+    ((codes "drop egress " ++ net) ++ codes " rule ") ++ number ≡ codes "drop egress" ++ 32 ∷ (net ++ 32 ∷ (codes "rule" ++ 32 ∷ number))
+egress_words net number = simp append_assoc refl
+
+pub rule_words : (net number : List ℕ) →
+    ((codes "drop ingress " ++ net) ++ codes " rule ") ++ number ≡ codes "drop ingress" ++ 32 ∷ (net ++ 32 ∷ (codes "rule" ++ 32 ∷ number))
+rule_words net number = simp append_assoc refl
+
+pub implied_words : (net : List ℕ) → (codes "drop ingress " ++ net) ++ codes " implied" ≡ codes "drop ingress" ++ 32 ∷ (net ++ 32 ∷ codes "implied")
+implied_words net = simp append_assoc refl
+
+pub route_words : (net number : List ℕ) → ((codes "drop route " ++ net) ++ 32 ∷ []) ++ number ≡ codes "drop route" ++ 32 ∷ (net ++ 32 ∷ number)
+route_words net number = simp append_assoc refl

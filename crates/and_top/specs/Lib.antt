@@ -16,3 +16,4 @@ pub mod Statuses
 pub mod Rows
 pub mod Counts
 pub mod Lists
+pub mod Stages

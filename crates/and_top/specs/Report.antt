@@ -12,6 +12,7 @@ use Rattle.and_events.specs.declared.plan.SkipReason.{SkipReason}
 use Rattle.and_events.specs.declared.plan.SkipReason.TheVariants as reasons
 use Rattle.and_events.specs.declared.plan.Plan.{Plan}
 use Rattle.and_top.specs.declared.fate.Fate.{Fate}
+use Rattle.and_top.specs.declared.fate.Key.{Key}
 use Rattle.and_top.specs.declared.fate.Fate.TheVariants.{Delivered, Spoofed, NoVm, NoOwner, EgressDenied, IngressDenied, RouteDropped, InBlackout, AtFullQueue, OutOfHops}
 
 -- what a run is counted by
@@ -68,11 +69,6 @@ is_out_of_hops _ = false
 abbrev pub is_received : ℕ → Fate → Bool
 is_received vm (Delivered u) = u == vm
 is_received vm _ = false
-
--- a network and the number of a rule or route
-pub record Key : Type 0 where
-  pub net : ℕ
-  pub number : ℕ
 
 abbrev pub egress_key : Fate → Option Key
 egress_key (EgressDenied net number) = Some (record { net = net; number = number })
@@ -218,17 +214,31 @@ skip_rows skipped =
 abbrev pub count_key : Key → List Key → ℕ
 count_key key keys = count_by (same_key key) keys
 
-abbrev pub rule_words : ℕ → List (List ℕ)
-rule_words number = if number == 0 then codes "implied" ∷ [] else codes "rule" ∷ decimal number ∷ []
+-- what a keyed line counts
+abbrev pub egress_name : Key → List ℕ
+egress_name k = words (codes "drop egress" ∷ decimal k.net ∷ codes "rule" ∷ decimal k.number ∷ [])
+
+abbrev pub implied_name : Key → List ℕ
+implied_name k = words (codes "drop ingress" ∷ decimal k.net ∷ codes "implied" ∷ [])
+
+abbrev pub rule_name : Key → List ℕ
+rule_name k = words (codes "drop ingress" ∷ decimal k.net ∷ codes "rule" ∷ decimal k.number ∷ [])
+
+-- number 0 is the implied verdict
+abbrev pub ingress_name : Key → List ℕ
+ingress_name k = if k.number == 0 then implied_name k else rule_name k
+
+abbrev pub route_name : Key → List ℕ
+route_name k = words (codes "drop route" ∷ decimal k.net ∷ decimal k.number ∷ [])
 
 abbrev pub egress_line : List Key → Key → List ℕ
-egress_line keys k = line (codes "drop egress" ∷ decimal k.net ∷ codes "rule" ∷ decimal k.number ∷ decimal (count_key k keys) ∷ [])
+egress_line keys k = counted (egress_name k) (count_key k keys)
 
 abbrev pub ingress_line : List Key → Key → List ℕ
-ingress_line keys k = line ((codes "drop ingress" ∷ decimal k.net ∷ rule_words k.number) ++ decimal (count_key k keys) ∷ [])
+ingress_line keys k = counted (ingress_name k) (count_key k keys)
 
 abbrev pub route_line : List Key → Key → List ℕ
-route_line keys k = line (codes "drop route" ∷ decimal k.net ∷ decimal k.number ∷ decimal (count_key k keys) ∷ [])
+route_line keys k = counted (route_name k) (count_key k keys)
 
 -- one line for each key, in order
 abbrev pub keyed_lines : (List Key → Key → List ℕ) → List Key → List ℕ

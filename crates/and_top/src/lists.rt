@@ -117,7 +117,7 @@ fn put_counted_vm(
     }
 }
 
-#[tactic(auto, using(crate::proofs::Lists::added_adds))]
+#[tactic(auto, using(crate::proofs::AddedVms::added_adds, crate::proofs::AddedVms::vm_none))]
 fn put_vm(
     alloc: Global,
     vm: usize,

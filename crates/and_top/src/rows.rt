@@ -21,7 +21,12 @@ pub(crate) fn put(text: &mut Vec<u8>, bytes: &[u8]) -> Result<(), NoMemory>
 }
 
 /// Puts the line of a name and a count.
-fn put_counted(alloc: Global, name: &str, count: u64, text: &mut Vec<u8>) -> Result<(), NoMemory>
+pub(crate) fn put_counted(
+    alloc: Global,
+    name: &str,
+    count: u64,
+    text: &mut Vec<u8>,
+) -> Result<(), NoMemory>
     ensures { OnOk result (text.new.items ≡ text.old.items ++ report.counted name.now count) }
 {
     match format!(in alloc; "{name} {count}\n") {

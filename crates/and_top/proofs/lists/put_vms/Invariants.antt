@@ -7,4 +7,4 @@ abbrev pub invariant-loop-name : goal.invariant-loop-name
 invariant-loop-name l =
     (l.vm ≡ l.name-index)
     × (l.fn.text.items ++ report.vm_lines l.plan (tally_of l.fates) 0 l.plan.names
-      ≡ l.text.items ++ report.vm_lines l.plan (tally_of l.fates) l.name-index (drop l.name-index l.plan.names))
+    ≡ l.text.items ++ report.vm_lines l.plan (tally_of l.fates) l.name-index (drop l.name-index l.plan.names))

@@ -52,6 +52,13 @@ impl Frames {
         Frames { items }
     }
 
+    /// The vector of the frames.
+    pub fn into_vec(self) -> Vec<Taken>
+        ensures { result.items ≡ self }
+    {
+        self.items
+    }
+
     /// How many frames there are.
     pub fn len(&self) -> usize
         ensures { result ≡ length self.now }

@@ -1,6 +1,5 @@
 -- The plan that a scenario gives with a capture: its items are applied in order, before anything runs.
-use Rattle.std.specs.Prelude.{ℕ, zero, suc, ◌+◌, ◌-◌, ◌==◌, Bool, true, false, min, if◌then◌else◌, List, [], ◌∷◌, ◌++◌, length, slice_get, Option, Some, None, Result, Ok, Err, unwrap_or}
-use Rattle.std.specs.List.{filter, filter_map}
+use Rattle.std.specs.Prelude.{ℕ, zero, suc, ◌+◌, ◌==◌, Bool, true, false, min, if◌then◌else◌, List, [], ◌∷◌, ◌++◌, length, Option, Some, None, Result, Ok, Err, unwrap_or}
 use Rattle.and_capture.specs.declared.capture.Taken.{Taken}
 use Rattle.and_capture.specs.declared.capture.Capture.{Capture}
 use Rattle.and_policy.specs.declared.packet.Skip.{Skip}
@@ -29,14 +28,15 @@ use Rattle.and_events.specs.Script.{Script, at_start, item_fault, script_after, 
 -- what the items up to now gave
 pub record Planning : Type 0 where
   pub script : Script
-  pub frame : ℕ  -- the next frame of the capture
+  pub frames : List Taken  -- those of the capture that are left
+  pub frame : ℕ  -- the number of the first of them
   pub steps : List Step
   pub packets : List Packet
   pub refused : List (ℕ × ItemFault)
   pub skipped : List (ℕ × SkipReason)
 
-abbrev pub nothing_planned : Planning
-nothing_planned = record { script = at_start; frame = 0; steps = []; packets = []; refused = []; skipped = [] }
+abbrev pub nothing_planned : List Taken → Planning
+nothing_planned frames = record { script = at_start; frames = frames; frame = 0; steps = []; packets = []; refused = []; skipped = [] }
 
 abbrev pub stepped : Planning → List Step → Planning
 stepped p more = record p { steps = p.steps ++ more }
@@ -48,13 +48,13 @@ abbrev pub source_or_skip : Script → Option Vm → Result Vm SkipReason
 source_or_skip s None = Err skips.NoSource
 source_or_skip s (Some vm) = if is_moving s vm.number then Err skips.PausedSource else Ok vm
 
+abbrev pub with_fields : Fields → Result Vm SkipReason → Result (Vm × Fields) SkipReason
+with_fields f (Ok vm) = Ok (vm, f)
+with_fields f (Err reason) = Err reason
+
 abbrev pub sendable : Script → Result Fields Skip → Result (Vm × Fields) SkipReason
 sendable s (Err skip) = Err (skips.Frame skip)
 sendable s (Ok f) = with_fields f (source_or_skip s (source_vm s.log f.source_mac))
-  where
-    with_fields : Fields → Result Vm SkipReason → Result (Vm × Fields) SkipReason
-    with_fields f (Ok vm) = Ok (vm, f)
-    with_fields f (Err reason) = Err reason
 
 abbrev pub frame_sent : Planning → Taken → Result (Vm × Fields) SkipReason → Planning
 frame_sent p taken (Err reason) = record p { frame = p.frame + 1; skipped = p.skipped ++ (p.frame, reason) ∷ [] }
@@ -65,14 +65,18 @@ frame_sent p taken (Ok v) =
       packets = p.packets ++ record { vm = v.0.number; tuple = v.1.tuple; taken = taken } ∷ [];
     }
 
-abbrev pub send_frame : Planning → Option Taken → Planning
-send_frame p None = p
-send_frame p (Some taken) = frame_sent p taken (sendable p.script (fields taken.frame))
+-- the next frame is sent, where one is left
+abbrev pub first_sent : Planning → List Taken → Planning
+first_sent p [] = p
+first_sent p (taken ∷ rest) = frame_sent (record p { frames = rest }) taken (sendable p.script (fields taken.frame))
+
+abbrev pub send_frame : Planning → Planning
+send_frame p = first_sent p p.frames
 
 -- the next frames, so many; fewer where fewer are left
-abbrev pub send_frames : List Taken → ℕ → Planning → Planning
-send_frames frames zero p = p
-send_frames frames (suc n) p = send_frames frames n (send_frame p (slice_get frames p.frame))
+abbrev pub send_frames : ℕ → Planning → Planning
+send_frames zero p = p
+send_frames (suc n) p = send_frames n (send_frame p)
 
 -- ---- items
 
@@ -86,18 +90,18 @@ item_steps (items.Resume vm) = steps.Resume vm ∷ []
 item_steps (items.Hold node what) = steps.Hold node what ∷ []
 item_steps (items.Free node what) = steps.Free node what ∷ []
 
-abbrev pub frames_of : List Taken → Planning → Item → Planning
-frames_of frames p (items.Send wanted) = send_frames frames (min (unwrap_or wanted (length frames - p.frame)) (length frames - p.frame)) p
-frames_of frames p _ = p
+abbrev pub frames_of : Planning → Item → Planning
+frames_of p (items.Send wanted) = send_frames (min (unwrap_or wanted (length p.frames)) (length p.frames)) p
+frames_of p _ = p
 
 -- an item that does not fit is refused and leaves all else as it was
-abbrev pub item_applied : List Taken → ℕ → Planning → Item → Option ItemFault → Planning
-item_applied frames n p item (Some fault) = record p { refused = p.refused ++ (n, fault) ∷ [] }
-item_applied frames n p item None = frames_of frames (stepped (record p { script = script_after p.script item }) (item_steps item)) item
+abbrev pub item_applied : ℕ → Planning → Item → Option ItemFault → Planning
+item_applied n p item (Some fault) = record p { refused = p.refused ++ (n, fault) ∷ [] }
+item_applied n p item None = frames_of (stepped (record p { script = script_after p.script item }) (item_steps item)) item
 
-abbrev pub items_applied : Settings → List Taken → ℕ → List Item → Planning → Planning
-items_applied s frames n [] p = p
-items_applied s frames n (item ∷ rest) p = items_applied s frames (suc n) rest (item_applied frames n p item (item_fault s p.script item))
+abbrev pub items_applied : Settings → ℕ → List Item → Planning → Planning
+items_applied s n [] p = p
+items_applied s n (item ∷ rest) p = items_applied s (suc n) rest (item_applied n p item (item_fault s p.script item))
 
 -- ---- the end
 
@@ -124,7 +128,7 @@ plan_from scenario capture p =
       refused = p.refused;
       skipped = p.skipped;
       frames = length capture.frames;
-      unsent = length capture.frames - p.frame;
+      unsent = length p.frames;
       nanos = capture.nanos;
       names = scenario.names;
     }
@@ -132,4 +136,4 @@ plan_from scenario capture p =
 -- the plan of a scenario and a capture
 unfoldable pub planned : Scenario → Capture → Plan
 planned scenario capture =
-    plan_from scenario capture (items_applied scenario.settings capture.frames 0 scenario.items nothing_planned)
+    plan_from scenario capture (items_applied scenario.settings 0 scenario.items (nothing_planned capture.frames))

@@ -16,7 +16,9 @@ use Rattle.and_events.specs.declared.plan.Step.TheVariants as steps
 use Rattle.and_events.specs.declared.plan.Packet.{Packet}
 use Rattle.and_events.specs.declared.plan.Plan.{Plan}
 use Rattle.and_events.specs.State.{packet_at}
-use Rattle.and_top.specs.Report.{Fate, Delivered, Spoofed, NoVm, NoOwner, EgressDenied, IngressDenied, Tally}
+use Rattle.and_top.specs.declared.fate.Fate.{Fate}
+use Rattle.and_top.specs.declared.fate.Fate.TheVariants.{Delivered, Spoofed, NoVm, NoOwner, EgressDenied, IngressDenied}
+use Rattle.and_top.specs.Report.{Tally}
 
 -- ---- one packet
 

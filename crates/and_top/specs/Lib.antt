@@ -2,6 +2,9 @@ pub mod FirstForm
 pub mod Direct
 pub mod Report
 pub mod Plans
+pub mod Sources
+pub mod Planners
+pub mod Policies
 pub mod Outside
 pub mod Telling
 pub mod Words
@@ -10,3 +13,7 @@ pub mod Pieces
 pub mod Inputs
 pub mod Answers
 pub mod Statuses
+pub mod Rows
+pub mod Counts
+pub mod Lists
+pub mod Stages

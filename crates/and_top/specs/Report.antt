@@ -11,19 +11,9 @@ use Rattle.and_events.specs.declared.plan.ItemFault.TheVariants as item_faults
 use Rattle.and_events.specs.declared.plan.SkipReason.{SkipReason}
 use Rattle.and_events.specs.declared.plan.SkipReason.TheVariants as reasons
 use Rattle.and_events.specs.declared.plan.Plan.{Plan}
-
--- what became of a packet
-pub data Fate : Type 0 where
-  Delivered : (vm : ℕ) → Fate
-  Spoofed : Fate
-  NoVm : Fate
-  NoOwner : Fate
-  EgressDenied : (net number : ℕ) → Fate
-  IngressDenied : (net number : ℕ) → Fate  -- number 0 is the implied verdict; rules count from 1
-  RouteDropped : (net number : ℕ) → Fate
-  InBlackout : Fate
-  AtFullQueue : Fate
-  OutOfHops : Fate
+use Rattle.and_top.specs.declared.fate.Fate.{Fate}
+use Rattle.and_top.specs.declared.fate.Key.{Key}
+use Rattle.and_top.specs.declared.fate.Fate.TheVariants.{Delivered, Spoofed, NoVm, NoOwner, EgressDenied, IngressDenied, RouteDropped, InBlackout, AtFullQueue, OutOfHops}
 
 -- what a run is counted by
 pub record Tally : Type 0 where
@@ -80,11 +70,6 @@ abbrev pub is_received : ℕ → Fate → Bool
 is_received vm (Delivered u) = u == vm
 is_received vm _ = false
 
--- a network and the number of a rule or route
-pub record Key : Type 0 where
-  pub net : ℕ
-  pub number : ℕ
-
 abbrev pub egress_key : Fate → Option Key
 egress_key (EgressDenied net number) = Some (record { net = net; number = number })
 egress_key _ = None
@@ -130,131 +115,146 @@ counted name n = line (name ∷ decimal n ∷ [])
 abbrev pub counted_if : List ℕ → ℕ → List ℕ
 counted_if name n = if n == 0 then [] else counted name n
 
+-- a name and its count
+pub record Row : Type 0 where
+  pub name : List ℕ
+  pub count : ℕ
+
+abbrev pub row : List ℕ → ℕ → Row
+row name count = record { name = name; count = count }
+
+-- one line for each row; and one for each row whose count is not 0
+abbrev pub all_rows : List Row → List ℕ
+all_rows [] = []
+all_rows (r ∷ rows) = counted r.name r.count ++ all_rows rows
+
+abbrev pub some_rows : List Row → List ℕ
+some_rows [] = []
+some_rows (r ∷ rows) = counted_if r.name r.count ++ some_rows rows
+
 -- ---- the first nineteen lines
 
-abbrev pub head_lines : Plan → Tally → List ℕ
-head_lines plan t = concat (
-    line (codes "andromeda report 1" ∷ [])
-    ∷ counted (codes "frames") plan.frames
-    ∷ counted (codes "skipped") (length plan.skipped)
-    ∷ counted (codes "unsent") plan.unsent
-    ∷ counted (codes "injected") (length plan.packets)
-    ∷ counted (codes "delivered") (count_by is_delivered t.fates)
-    ∷ counted (codes "dropped") (count_by is_dropped t.fates)
-    ∷ counted (codes "lost blackout") (count_by is_in_blackout t.fates)
-    ∷ counted (codes "lost queue") (count_by is_at_full_queue t.fates)
-    ∷ counted (codes "lost hops") (count_by is_out_of_hops t.fates)
-    ∷ counted (codes "sends") t.sends
-    ∷ counted (codes "offload") t.offload
-    ∷ counted (codes "hover") t.hover
-    ∷ counted (codes "hairpin") t.hairpin
-    ∷ counted (codes "redirect") t.redirect
-    ∷ counted (codes "fast") t.fast
-    ∷ counted (codes "slow") t.slow
-    ∷ counted (codes "orders") t.orders
-    ∷ counted (codes "refused") (length plan.refused)
-    ∷ [])
+abbrev pub title : List ℕ
+title = line (codes "andromeda report 1" ∷ [])
+
+unfoldable pub head_rows : Plan → Tally → List Row
+head_rows plan t =
+    row (codes "frames") plan.frames
+    ∷ row (codes "skipped") (length plan.skipped)
+    ∷ row (codes "unsent") plan.unsent
+    ∷ row (codes "injected") (length plan.packets)
+    ∷ row (codes "delivered") (count_by is_delivered t.fates)
+    ∷ row (codes "dropped") (count_by is_dropped t.fates)
+    ∷ row (codes "lost blackout") (count_by is_in_blackout t.fates)
+    ∷ row (codes "lost queue") (count_by is_at_full_queue t.fates)
+    ∷ row (codes "lost hops") (count_by is_out_of_hops t.fates)
+    ∷ row (codes "sends") t.sends
+    ∷ row (codes "offload") t.offload
+    ∷ row (codes "hover") t.hover
+    ∷ row (codes "hairpin") t.hairpin
+    ∷ row (codes "redirect") t.redirect
+    ∷ row (codes "fast") t.fast
+    ∷ row (codes "slow") t.slow
+    ∷ row (codes "orders") t.orders
+    ∷ row (codes "refused") (length plan.refused)
+    ∷ []
 
 -- ---- skipped frames
 
-abbrev pub is_too_long : ℕ × SkipReason → Bool
-is_too_long s = is_reason s.1
-  where
-    is_reason : SkipReason → Bool
-    is_reason (reasons.Frame skips.TooLong) = true
-    is_reason _ = false
+abbrev pub is_too_long : SkipReason → Bool
+is_too_long (reasons.Frame skips.TooLong) = true
+is_too_long _ = false
 
-abbrev pub is_short : ℕ × SkipReason → Bool
-is_short s = is_reason s.1
-  where
-    is_reason : SkipReason → Bool
-    is_reason (reasons.Frame skips.Short) = true
-    is_reason _ = false
+abbrev pub is_short : SkipReason → Bool
+is_short (reasons.Frame skips.Short) = true
+is_short _ = false
 
-abbrev pub is_not_ip4 : ℕ × SkipReason → Bool
-is_not_ip4 s = is_reason s.1
-  where
-    is_reason : SkipReason → Bool
-    is_reason (reasons.Frame skips.NotIp4) = true
-    is_reason _ = false
+abbrev pub is_not_ip4 : SkipReason → Bool
+is_not_ip4 (reasons.Frame skips.NotIp4) = true
+is_not_ip4 _ = false
 
-abbrev pub is_cut : ℕ × SkipReason → Bool
-is_cut s = is_reason s.1
-  where
-    is_reason : SkipReason → Bool
-    is_reason (reasons.Frame skips.Cut) = true
-    is_reason _ = false
+abbrev pub is_cut : SkipReason → Bool
+is_cut (reasons.Frame skips.Cut) = true
+is_cut _ = false
 
-abbrev pub is_bad_ip4 : ℕ × SkipReason → Bool
-is_bad_ip4 s = is_reason s.1
-  where
-    is_reason : SkipReason → Bool
-    is_reason (reasons.Frame skips.BadIp4) = true
-    is_reason _ = false
+abbrev pub is_bad_ip4 : SkipReason → Bool
+is_bad_ip4 (reasons.Frame skips.BadIp4) = true
+is_bad_ip4 _ = false
 
-abbrev pub is_short_ports : ℕ × SkipReason → Bool
-is_short_ports s = is_reason s.1
-  where
-    is_reason : SkipReason → Bool
-    is_reason (reasons.Frame skips.ShortPorts) = true
-    is_reason _ = false
+abbrev pub is_short_ports : SkipReason → Bool
+is_short_ports (reasons.Frame skips.ShortPorts) = true
+is_short_ports _ = false
 
-abbrev pub is_no_source : ℕ × SkipReason → Bool
-is_no_source s = is_reason s.1
-  where
-    is_reason : SkipReason → Bool
-    is_reason reasons.NoSource = true
-    is_reason _ = false
+abbrev pub is_no_source : SkipReason → Bool
+is_no_source reasons.NoSource = true
+is_no_source _ = false
 
-abbrev pub is_paused_source : ℕ × SkipReason → Bool
-is_paused_source s = is_reason s.1
-  where
-    is_reason : SkipReason → Bool
-    is_reason reasons.PausedSource = true
-    is_reason _ = false
+abbrev pub is_paused_source : SkipReason → Bool
+is_paused_source reasons.PausedSource = true
+is_paused_source _ = false
 
-abbrev pub skip_lines : Plan → List ℕ
-skip_lines plan = concat (
-    counted_if (codes "skip TooLong") (count_by is_too_long plan.skipped)
-    ∷ counted_if (codes "skip Short") (count_by is_short plan.skipped)
-    ∷ counted_if (codes "skip NotIp4") (count_by is_not_ip4 plan.skipped)
-    ∷ counted_if (codes "skip Cut") (count_by is_cut plan.skipped)
-    ∷ counted_if (codes "skip BadIp4") (count_by is_bad_ip4 plan.skipped)
-    ∷ counted_if (codes "skip ShortPorts") (count_by is_short_ports plan.skipped)
-    ∷ counted_if (codes "skip NoSource") (count_by is_no_source plan.skipped)
-    ∷ counted_if (codes "skip PausedSource") (count_by is_paused_source plan.skipped)
-    ∷ [])
+-- how many frames were skipped for this reason
+abbrev pub skipped_for : (SkipReason → Bool) → List (ℕ × SkipReason) → ℕ
+skipped_for is_reason skipped = count_by (λ s. is_reason s.1) skipped
+
+unfoldable pub skip_rows : List (ℕ × SkipReason) → List Row
+skip_rows skipped =
+    row (codes "skip TooLong") (skipped_for is_too_long skipped)
+    ∷ row (codes "skip Short") (skipped_for is_short skipped)
+    ∷ row (codes "skip NotIp4") (skipped_for is_not_ip4 skipped)
+    ∷ row (codes "skip Cut") (skipped_for is_cut skipped)
+    ∷ row (codes "skip BadIp4") (skipped_for is_bad_ip4 skipped)
+    ∷ row (codes "skip ShortPorts") (skipped_for is_short_ports skipped)
+    ∷ row (codes "skip NoSource") (skipped_for is_no_source skipped)
+    ∷ row (codes "skip PausedSource") (skipped_for is_paused_source skipped)
+    ∷ []
 
 -- ---- drops
 
 abbrev pub count_key : Key → List Key → ℕ
 count_key key keys = count_by (same_key key) keys
 
-abbrev pub rule_words : ℕ → List (List ℕ)
-rule_words number = if number == 0 then codes "implied" ∷ [] else codes "rule" ∷ decimal number ∷ []
+-- what a keyed line counts
+abbrev pub egress_name : Key → List ℕ
+egress_name k = words (codes "drop egress" ∷ decimal k.net ∷ codes "rule" ∷ decimal k.number ∷ [])
+
+abbrev pub implied_name : Key → List ℕ
+implied_name k = words (codes "drop ingress" ∷ decimal k.net ∷ codes "implied" ∷ [])
+
+abbrev pub rule_name : Key → List ℕ
+rule_name k = words (codes "drop ingress" ∷ decimal k.net ∷ codes "rule" ∷ decimal k.number ∷ [])
+
+-- number 0 is the implied verdict
+abbrev pub ingress_name : Key → List ℕ
+ingress_name k = if k.number == 0 then implied_name k else rule_name k
+
+abbrev pub route_name : Key → List ℕ
+route_name k = words (codes "drop route" ∷ decimal k.net ∷ decimal k.number ∷ [])
 
 abbrev pub egress_line : List Key → Key → List ℕ
-egress_line keys k = line (codes "drop egress" ∷ decimal k.net ∷ codes "rule" ∷ decimal k.number ∷ decimal (count_key k keys) ∷ [])
+egress_line keys k = counted (egress_name k) (count_key k keys)
 
 abbrev pub ingress_line : List Key → Key → List ℕ
-ingress_line keys k = line ((codes "drop ingress" ∷ decimal k.net ∷ rule_words k.number) ++ decimal (count_key k keys) ∷ [])
+ingress_line keys k = counted (ingress_name k) (count_key k keys)
 
 abbrev pub route_line : List Key → Key → List ℕ
-route_line keys k = line (codes "drop route" ∷ decimal k.net ∷ decimal k.number ∷ decimal (count_key k keys) ∷ [])
+route_line keys k = counted (route_name k) (count_key k keys)
 
 -- one line for each key, in order
 abbrev pub keyed_lines : (List Key → Key → List ℕ) → List Key → List ℕ
 keyed_lines key_line keys = flat_map (key_line keys) (in_order keys)
 
+unfoldable pub drop_rows : Tally → List Row
+drop_rows t =
+    row (codes "drop spoofed") (count_by is_spoofed t.fates)
+    ∷ row (codes "drop novm") (count_by is_novm t.fates)
+    ∷ row (codes "drop noowner") (count_by is_noowner t.fates)
+    ∷ []
+
 abbrev pub drop_lines : Tally → List ℕ
-drop_lines t = concat (
-    counted_if (codes "drop spoofed") (count_by is_spoofed t.fates)
-    ∷ counted_if (codes "drop novm") (count_by is_novm t.fates)
-    ∷ counted_if (codes "drop noowner") (count_by is_noowner t.fates)
-    ∷ keyed_lines egress_line (filter_map egress_key t.fates)
-    ∷ keyed_lines ingress_line (filter_map ingress_key t.fates)
-    ∷ keyed_lines route_line (filter_map route_key t.fates)
-    ∷ [])
+drop_lines t =
+    some_rows (drop_rows t) ++ keyed_lines egress_line (filter_map egress_key t.fates) ++ keyed_lines ingress_line (filter_map ingress_key t.fates)
+    ++ keyed_lines route_line (filter_map route_key t.fates)
 
 -- ---- refused items
 
@@ -307,4 +307,5 @@ vm_lines plan t vm (name ∷ names) = vm_line plan t vm name ++ vm_lines plan t 
 
 -- the report of a plan and the tally of its run
 unfoldable pub report : Plan → Tally → List ℕ
-report plan t = head_lines plan t ++ skip_lines plan ++ drop_lines t ++ flat_map item_line plan.refused ++ vm_lines plan t 0 plan.names
+report plan t =
+    title ++ all_rows (head_rows plan t) ++ some_rows (skip_rows plan.skipped) ++ drop_lines t ++ flat_map item_line plan.refused ++ vm_lines plan t 0 plan.names

@@ -4,15 +4,25 @@
 mod answers;
 mod captures;
 mod commands;
+mod counts;
 mod direct;
+mod directs;
+mod drops;
+mod fate;
 mod first_form;
 mod inputs;
 mod line;
+mod lists;
 mod plan;
+mod planner;
+mod policy;
 mod replaying;
+mod rows;
+mod skips;
 #[cfg(test)]
 mod tests;
 mod words;
+mod written;
 
 pub use answers::{Fault, Job, ScenarioFault, Turns, Which};
 pub use commands::andromeda;

@@ -17,6 +17,7 @@ use and_policy::NoMemory;
 use std::alloc::Global;
 
 /// The text of the report.
+#[tactic(auto, using(crate::proofs::FirstPlans::first_plan))]
 fn report_text(alloc: Global, scenario: Scenario, capture: Capture) -> Result<Vec<u8>, NoMemory>
     requires { CanPlan scenario capture }
     ensures { IfOk result (λ text. text.items ≡ report_of scenario capture) }

@@ -1,0 +1,4 @@
+//! The system as a plain program: each function computes the definition of its name over plain lists, slowly and exactly.
+
+mod flow;
+mod rows;

@@ -1,0 +1,50 @@
+//! Lists that change at one place.
+ghost use Rattle.std.specs.Prelude.{◌≡◌, slice_set, slice_index_or, OnOk};
+ghost use Rattle.and_events.specs.Flow as flows;
+
+use crate::items::Items;
+use and_policy::NoMemory;
+
+/// Puts an item at a place. A place past the end changes nothing.
+#[tactic(auto, using(std::proofs::lemmas::List::set_past))]
+pub(crate) fn set_at<T: Copy>(items: &mut Vec<T>, at: usize, item: T)
+    ensures { items.new.items ≡ slice_set items.old.items at item }
+{
+    if at < items.len() {
+        items[at] = item;
+    }
+}
+
+/// The item at a place, or another where the list has none there.
+pub(crate) fn at_or<T: Copy>(items: &[T], at: usize, or: T) -> T
+    ensures { result ≡ slice_index_or items.now at or }
+{
+    match items.get(at) {
+        Some(item) => *item,
+        None => or,
+    }
+}
+
+/// Puts a packet at the end of a queue.
+#[tactic(auto, using(std::proofs::lemmas::List::set_past, std::proofs::lemmas::List::get_or_read))]
+pub(crate) fn push_at(queues: &mut Vec<Items<u32>>, queue: usize, packet: u32) -> Result<(), NoMemory>
+    ensures ok { OnOk result (queues.new.items ≡ flows.pushed queues.old.items queue packet) }
+{
+    if queue >= queues.len() {
+        return Ok(());
+    }
+    let entry = &mut queues[queue];
+    entry.push(packet)
+}
+
+/// Takes the first packet of a queue away.
+#[tactic(auto, using(std::proofs::lemmas::List::set_past, std::proofs::lemmas::List::get_or_read))]
+pub(crate) fn pop_at(queues: &mut Vec<Items<u32>>, queue: usize)
+    ensures { queues.new.items ≡ flows.popped queues.old.items queue }
+{
+    if queue >= queues.len() {
+        return;
+    }
+    let entry = &mut queues[queue];
+    entry.drop_first();
+}

@@ -1,5 +1,5 @@
 //! Lists that change at one place.
-ghost use Rattle.std.specs.Prelude.{◌≡◌, slice_set, slice_index_or, OnOk};
+ghost use Rattle.std.specs.Prelude.{◌≡◌, slice_set, slice_index_or, ◌++◌, ◌∷◌, [], OnOk};
 ghost use Rattle.and_events.specs.Flow as flows;
 
 use crate::items::Items;
@@ -25,16 +25,16 @@ pub(crate) fn at_or<T: Copy>(items: &[T], at: usize, or: T) -> T
     }
 }
 
-/// Puts a packet at the end of a queue.
+/// Puts an item at the end of the list at a place. A place past the end changes nothing.
 #[tactic(auto, using(std::proofs::lemmas::List::set_past, std::proofs::lemmas::List::get_or_read))]
-pub(crate) fn push_at(queues: &mut Vec<Items<u32>>, queue: usize, packet: u32) -> Result<(), NoMemory>
-    ensures ok { OnOk result (queues.new.items ≡ flows.pushed queues.old.items queue packet) }
+pub(crate) fn push_at<T: Copy>(rows: &mut Vec<Items<T>>, at: usize, item: T) -> Result<(), NoMemory>
+    ensures ok { OnOk result (rows.new.items ≡ slice_set rows.old.items at (slice_index_or rows.old.items at [] ++ item ∷ [])) }
 {
-    if queue >= queues.len() {
+    if at >= rows.len() {
         return Ok(());
     }
-    let entry = &mut queues[queue];
-    entry.push(packet)
+    let row = &mut rows[at];
+    row.push(item)
 }
 
 /// Takes the first packet of a queue away.
@@ -47,4 +47,14 @@ pub(crate) fn pop_at(queues: &mut Vec<Items<u32>>, queue: usize)
     }
     let entry = &mut queues[queue];
     entry.drop_first();
+}
+
+/// The list at a place; an empty one where there is none.
+pub(crate) fn row_at<T>(rows: &[Items<T>], at: usize) -> &[T]
+    ensures { result.now ≡ slice_index_or rows.now at [] }
+{
+    match rows.get(at) {
+        Some(row) => row.as_slice(),
+        None => &[],
+    }
 }

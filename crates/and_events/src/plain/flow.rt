@@ -43,7 +43,12 @@ pub(crate) fn carried_in(carried: &[Carried], packet: u32) -> Carried
 
 /// A packet comes from outside, or is lost where the queue was full.
 #[tactic(auto, unfolding(crate::specs::Flow::flow_after))]
-pub(crate) fn enter_by(flow: &mut Flow, queue: usize, packet: u32, full: bool) -> Result<(), NoMemory>
+pub(crate) fn enter_by(
+    flow: &mut Flow,
+    queue: usize,
+    packet: u32,
+    full: bool,
+) -> Result<(), NoMemory>
     ensures ok { OnOk result (flow.new ≡ flow_after flow.old (flows.enter_by queue packet full)) }
 {
     if full {
@@ -72,7 +77,14 @@ pub(crate) fn stop(flow: &mut Flow, hand: usize, packet: u32)
 
 // An actor sends what it has in hand.
 #[tactic(auto, unfolding(crate::specs::Flow::flow_after))]
-fn send(flow: &mut Flow, hand: usize, queue: usize, packet: u32, net: u32, target: Endpoint) -> Result<(), NoMemory>
+fn send(
+    flow: &mut Flow,
+    hand: usize,
+    queue: usize,
+    packet: u32,
+    net: u32,
+    target: Endpoint,
+) -> Result<(), NoMemory>
     ensures ok { OnOk result (flow.new ≡ flow_after flow.old (flows.Send hand queue packet net target)) }
 {
     let carried = carried_in(&flow.carried, packet);
@@ -90,7 +102,14 @@ fn send(flow: &mut Flow, hand: usize, queue: usize, packet: u32, net: u32, targe
 
 // An actor gives what it has in hand to be sealed, and sent then.
 #[tactic(auto, unfolding(crate::specs::Flow::flow_after))]
-fn seal_later(flow: &mut Flow, hand: usize, queue: usize, packet: u32, net: u32, target: Endpoint) -> Result<(), NoMemory>
+fn seal_later(
+    flow: &mut Flow,
+    hand: usize,
+    queue: usize,
+    packet: u32,
+    net: u32,
+    target: Endpoint,
+) -> Result<(), NoMemory>
     ensures ok { OnOk result (flow.new ≡ flow_after flow.old (flows.SealLater hand queue packet net target)) }
 {
     let carried = carried_in(&flow.carried, packet);
@@ -107,7 +126,15 @@ fn seal_later(flow: &mut Flow, hand: usize, queue: usize, packet: u32, net: u32,
 }
 
 /// A send of what an actor has in hand, by how it ends.
-pub(crate) fn send_by(flow: &mut Flow, hand: usize, queue: usize, packet: u32, end: End, net: u32, target: Endpoint) -> Result<(), NoMemory>
+pub(crate) fn send_by(
+    flow: &mut Flow,
+    hand: usize,
+    queue: usize,
+    packet: u32,
+    end: End,
+    net: u32,
+    target: Endpoint,
+) -> Result<(), NoMemory>
     ensures ok { OnOk result (flow.new ≡ flow_after flow.old (flows.send_by hand queue packet end net target)) }
 {
     match end {
@@ -120,7 +147,15 @@ pub(crate) fn send_by(flow: &mut Flow, hand: usize, queue: usize, packet: u32, e
 }
 
 /// A packet to be sealed, by how the try at the queue ends.
-pub(crate) fn seal_by(flow: &mut Flow, hand: usize, queue: usize, packet: u32, end: End, net: u32, target: Endpoint) -> Result<(), NoMemory>
+pub(crate) fn seal_by(
+    flow: &mut Flow,
+    hand: usize,
+    queue: usize,
+    packet: u32,
+    end: End,
+    net: u32,
+    target: Endpoint,
+) -> Result<(), NoMemory>
     ensures ok { OnOk result (flow.new ≡ flow_after flow.old (flows.seal_by hand queue packet end net target)) }
 {
     match end {

@@ -37,7 +37,8 @@ fn push_first(programmes: &mut Vec<Items<Op>>, count: usize, op: Op) -> Result<(
     }
     let last = count - 1;
     push_first(programmes, last, op)?;
-    push_at(programmes, last, op)
+    push_at(programmes, last, op)?;
+    Ok(())
 }
 
 // Puts the operation at the end of every programme.

@@ -1,9 +1,10 @@
 //! Lists that change at one place.
-ghost use Rattle.std.specs.Prelude.{◌≡◌, slice_set, slice_index_or, ◌++◌, ◌∷◌, [], OnOk};
+ghost use Rattle.std.specs.Prelude.{◌≡◌, slice_set, slice_index_or, ◌++◌, ◌∷◌, [], OnOk, IfOk, replicate};
 ghost use Rattle.and_events.specs.Flow as flows;
 
 use crate::items::Items;
 use and_policy::NoMemory;
+use std::alloc::Global;
 
 /// Puts an item at a place. A place past the end changes nothing.
 #[tactic(auto, using(std::proofs::lemmas::List::set_past))]
@@ -57,4 +58,38 @@ pub(crate) fn row_at<T>(rows: &[Items<T>], at: usize) -> &[T]
         Some(row) => row.as_slice(),
         None => &[],
     }
+}
+
+/// So many times the item.
+#[tactic(auto, using(std::proofs::lemmas::Grind::replicate_next))]
+pub(crate) fn filled<T: Copy>(alloc: Global, item: T, count: usize) -> Result<Vec<T>, NoMemory>
+    ensures ok { IfOk result (λ items. items.items ≡ replicate count item) }
+{
+    let mut items = Vec::new(alloc);
+    for at in 0..count {
+        if items.push(item).is_err() {
+            return Err(NoMemory);
+        }
+    }
+    Ok(items)
+}
+
+/// So many lists, each with so many times the item.
+#[tactic(auto, using(std::proofs::lemmas::Grind::replicate_next))]
+pub(crate) fn make_rows<T: Copy>(
+    alloc: Global,
+    count: usize,
+    width: usize,
+    item: T,
+) -> Result<Vec<Items<T>>, NoMemory>
+    ensures ok { IfOk result (λ rows. rows.items ≡ replicate count (replicate width item)) }
+{
+    let mut rows = Vec::new(alloc);
+    for at in 0..count {
+        let row = filled(alloc, item, width)?;
+        if rows.push(Items::from_vec(row)).is_err() {
+            return Err(NoMemory);
+        }
+    }
+    Ok(rows)
 }

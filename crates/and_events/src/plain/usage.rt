@@ -3,8 +3,6 @@ ghost use Rattle.std.specs.Prelude.{◌≡◌, ◌++◌, ◌∷◌, [], OnOk, If
 ghost use Rattle.and_events.specs.Usage as spec;
 ghost use Rattle.and_events.specs.Programming as programming;
 
-
-
 use crate::items::Items;
 use crate::plain::log::now;
 use crate::plain::rows::push_at;
@@ -38,8 +36,7 @@ fn is_same_key(a: &UsageKey, b: &UsageKey) -> bool
 fn is_before(a: &UsageKey, b: &UsageKey) -> bool
     ensures { result ≡ spec.key_before a.now b.now }
 {
-    a.host < b.host
-        || (a.host == b.host && (a.net < b.net || (a.net == b.net && a.ip < b.ip)))
+    a.host < b.host || (a.host == b.host && (a.net < b.net || (a.net == b.net && a.ip < b.ip)))
 }
 
 // Puts it at the end.
@@ -92,7 +89,12 @@ fn put_use(all: &mut Vec<Used>, key: UsageKey, bytes: u64, usage: &[Used]) -> Re
 }
 
 /// The usage in the order of its keys, with so many bytes more for this key.
-pub(crate) fn with_use(alloc: Global, key: UsageKey, bytes: u64, usage: &[Used]) -> Result<Vec<Used>, NoMemory>
+pub(crate) fn with_use(
+    alloc: Global,
+    key: UsageKey,
+    bytes: u64,
+    usage: &[Used],
+) -> Result<Vec<Used>, NoMemory>
     ensures ok { IfOk result (λ all. all.items ≡ spec.with_use key bytes usage.now) }
 {
     let mut all = Vec::new(alloc);
@@ -102,7 +104,12 @@ pub(crate) fn with_use(alloc: Global, key: UsageKey, bytes: u64, usage: &[Used])
 
 // Gives the order for a key, where it has as many bytes as the threshold and its route gives a network with an owner of
 // the address.
-fn give_order(settings: &Settings, log: &[Entry], used: &Used, programmes: &mut Vec<Items<Op>>) -> Result<(), NoMemory>
+fn give_order(
+    settings: &Settings,
+    log: &[Entry],
+    used: &Used,
+    programmes: &mut Vec<Items<Op>>,
+) -> Result<(), NoMemory>
     ensures ok { OnOk result (programmes.new.items ≡ programming.with_orders programmes.old.items (spec.orders_of settings.now log.now (used.now ∷ []))) }
 {
     if used.bytes < settings.threshold {
@@ -128,7 +135,12 @@ fn give_order(settings: &Settings, log: &[Entry], used: &Used, programmes: &mut 
 }
 
 /// Gives the orders of a review, in key order.
-pub(crate) fn give_orders(settings: &Settings, log: &[Entry], usage: &[Used], programmes: &mut Vec<Items<Op>>) -> Result<(), NoMemory>
+pub(crate) fn give_orders(
+    settings: &Settings,
+    log: &[Entry],
+    usage: &[Used],
+    programmes: &mut Vec<Items<Op>>,
+) -> Result<(), NoMemory>
     ensures ok { OnOk result (programmes.new.items ≡ programming.with_orders programmes.old.items (spec.orders_of settings.now log.now usage.now)) }
 {
     match usage {

@@ -8,9 +8,10 @@ mod places;
 mod ports;
 mod programmes;
 mod rows;
+mod sends;
 mod state;
 mod steps;
 mod usage;
 
-pub use events::after;
+pub use events::{after, state_of};
 pub use state::{State, start};

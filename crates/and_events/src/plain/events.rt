@@ -1,18 +1,21 @@
 //! The state after an event.
-ghost use Rattle.std.specs.Prelude.{◌≡◌, ℕ, OnOk};
+ghost use Rattle.std.specs.Prelude.{◌≡◌, ℕ, OnOk, IfOk};
 ghost use Rattle.and_events.specs.declared.event.Event.TheVariants as events;
 ghost use Rattle.and_events.specs.declared.plan.Plan as plans;
 ghost use Rattle.and_policy.specs.declared.decision.Way as ways;
+ghost use Rattle.and_events.specs.Run.{past};
 ghost use Rattle.and_events.specs.State as spec;
 ghost use Rattle.and_events.specs.Usage.{usage_after};
 
-use crate::event::{Actor, Arrival, Departure, End, Event, Held, Node, Passage, Queue, Return};
+use crate::event::{
+    Actor, Arrival, Departure, End, Event, Held, Line, Node, Passage, Queue, Return,
+};
 use crate::plain::facts::{frame_len, source_net, tuple_at};
 use crate::plain::flow::{carried_in, enter_by, grab};
 use crate::plain::places::{hand_place, node_of, node_place, queue_place};
 use crate::plain::ports::unpinned;
 use crate::plain::programmes::{announces, installs};
-use crate::plain::state::{State, home, installed_of};
+use crate::plain::state::{State, home, installed_of, start};
 use crate::plain::steps::{
     advance, arrives, departs, goes_back, holds_of_step, passes, ports_of_step, send, step_at,
     whole_step, word_of_step,
@@ -300,4 +303,16 @@ pub fn after(alloc: Global, plan: &Plan, s: &mut State, event: &Event) -> Result
         Event::Unpin { host, vm } => unpin(s, host, vm),
     }
     Ok(())
+}
+
+/// The state after lines, the oldest of which is first.
+#[tactic(auto, using(crate::proofs::Past::past_next), unfolding(crate::specs::State::state))]
+pub fn state_of(alloc: Global, plan: &Plan, lines: &[Line]) -> Result<State, NoMemory>
+    ensures ok { IfOk result (λ s. s ≡ spec.state plan.now (past lines.now)) }
+{
+    let mut s = start(alloc, plan)?;
+    for line in lines {
+        after(alloc, plan, &mut s, &line.event)?;
+    }
+    Ok(s)
 }

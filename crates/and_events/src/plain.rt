@@ -1,5 +1,7 @@
 //! The system as a plain program: each function computes the definition of its name over plain lists, slowly and exactly.
 
+mod conditions;
+mod decisions;
 mod events;
 mod facts;
 mod flow;

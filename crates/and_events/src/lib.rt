@@ -3,6 +3,7 @@
 
 mod event;
 mod items;
+pub mod plain;
 mod plan;
 
 pub use event::{

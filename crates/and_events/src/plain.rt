@@ -1,0 +1,19 @@
+//! The system as a plain program: each function computes the definition of its name over plain lists, slowly and exactly.
+
+mod conditions;
+mod decisions;
+mod events;
+mod facts;
+mod flow;
+mod log;
+mod places;
+mod ports;
+mod programmes;
+mod rows;
+mod sends;
+mod state;
+mod steps;
+mod usage;
+
+pub use events::{after, state_of};
+pub use state::{State, start};

@@ -1,4 +1,8 @@
-//! Scenarios: the JSON text of a topology and a script, read exactly, and the plan that a script gives with a capture.
+//! Scenarios: the JSON text of a topology and a script, read exactly.
+//!
+//! [`read_scenario`] takes exactly the texts that the tables of items and fields (`specs/Tables.antt`) give, by one order of checks for an
+//! object and one for a field (`specs/Grammar.antt`); of any other text it tells the first check that fails, and where. VM names are
+//! numbered in the order in which they first stand in the script. It stands on `serde_json`'s meaning of the bytes.
 #![tactic(auto)]
 
 pub use and_events::{Item, Scenario};
@@ -14,4 +18,6 @@ mod refusal;
 mod scenario;
 mod script;
 mod tables;
+#[cfg(test)]
+mod tests;
 mod words;

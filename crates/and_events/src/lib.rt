@@ -3,7 +3,6 @@
 
 mod event;
 mod items;
-pub mod plain;
 mod plan;
 
 pub use event::{

@@ -1,0 +1,37 @@
+#!/usr/bin/env bash
+# What a replay costs, in one run: 1,000, 10,000 and 100,000 frames of 100 bytes over 256 rules in 16 networks, and the reading of the largest capture
+# (a scenario without VMs, so that each frame is read and skipped) beside the plainest C. It needs the program that `rt ci` or `./demo` leaves in
+# crates/andromeda/out.
+set -u
+cd "$(dirname "$0")/../.." || exit 1
+program=crates/andromeda/out/andromeda
+command -v python3 >/dev/null || { echo "skipped: no python3"; exit 0; }
+command -v cc >/dev/null || { echo "skipped: no cc"; exit 0; }
+[ -x "$program" ] || { echo "skipped: $program is not built"; exit 0; }
+work=$(mktemp -d) || exit 1
+trap 'rm -rf "$work"' EXIT
+python3 bench/replay/make_input.py "$work" 1000 10000 100000 || exit 1
+cc -O2 -o "$work/read" bench/replay/read.c || exit 1
+
+# The milliseconds of the best of five runs.
+ms() {
+  local best='' start spent
+  for _ in 1 2 3 4 5; do
+    start=$(date +%s%N)
+    "$@" >"$work/out" || { echo "failed: $*" >&2; return 1; }
+    spent=$(( ($(date +%s%N) - start) / 1000 ))
+    [ -n "$best" ] && [ "$best" -le "$spent" ] || best=$spent
+  done
+  awk -v t="$best" 'BEGIN { printf "%.2f", t / 1000 }'
+}
+
+for frames in 1000 10000 100000; do
+  spent=$(ms "$program" replay "$work/scenario.json" "$work/$frames.pcap" x) || exit 1
+  echo "$frames frames: $spent ms, $(awk -v t="$spent" -v n="$frames" 'BEGIN { printf "%.3f", 1000 * t / n }') us a frame; $(grep -c . "$work/out") lines of report"
+done
+ours=$(ms "$program" replay "$work/no-vms.json" "$work/100000.pcap" x) || exit 1
+c=$(ms "$work/read" "$work/100000.pcap") || exit 1
+echo "reading 100000 frames of 100 bytes: $ours ms, plain C $c ms, ratio $(awk -v a="$ours" -v b="$c" 'BEGIN { printf "%.2f", a / b }')"
+if [ -x /usr/bin/time ]; then
+  /usr/bin/time -f "peak memory at 100000 frames: %M KB" "$program" replay "$work/scenario.json" "$work/100000.pcap" x >/dev/null
+fi

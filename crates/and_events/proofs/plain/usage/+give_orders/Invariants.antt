@@ -1,5 +1,0 @@
-use Rattle.std.proofs.Common.{length}
-use Rattle.and_events.proofs.plain.usage.+give_orders.Given as goal
-
-abbrev pub decreases-give_orders : goal.decreases-give_orders
-decreases-give_orders l = length l.usage.now

@@ -2,7 +2,6 @@
 use Rattle.std.proofs.Common.{◌≡◌, ◌≤◌, ◌+◌, drop, ℕ, zero, suc, List, [], ◌∷◌, length, Bool, true, false, nat_lt, Option, Some, None, Result, Ok, Err, refl, ap, sym, ◌∙◌, subst, arith}
 use Rattle.std.specs.Prelude.{if◌then◌else◌, codes, ◌==◌}
 use Rattle.std.proofs.lemmas.Bool.Decides.{nat_tests}
-use Rattle.std.proofs.lemmas.List.{length-map}
 use Rattle.and_capture.specs.declared.capture.Capture.{Capture}
 use Rattle.and_capture.specs.declared.capture.Taken.{Taken}
 use Rattle.and_capture.specs.declared.TheConstants.{MAX_FRAMES, HEADER_LEN, RECORD_LEN}
@@ -14,10 +13,9 @@ use Rattle.and_capture.specs.Spelling.{Order, number_in}
 use Rattle.and_events.specs.declared.plan.Scenario.{Scenario}
 use Rattle.and_events.specs.declared.plan.Settings.{Settings}
 use Rattle.serde_json.specs.Data.{Data, Items, no_items, item}
-use Rattle.serde_json.specs.Find.{as_object}
-use Rattle.and_script.specs.Forms.{Given, Number, Listed}
+use Rattle.serde_json.specs.Find.{get, as_object}
 use Rattle.and_script.specs.Grammar as scripts
-use Rattle.and_script.specs.Grammar.{Fault, Refused, Limit, Top, Of, scenario_of, scenario_by, scenario_with, items_of, item_of, at_item, item_count, at_top, top_in, Written}
+use Rattle.and_script.specs.Grammar.{Fault, scenario_of, scripted, settings_by, script_in, scenario_with, with_name, items_from, items_of, item_of, at_item, item_count, at_top, top_in, Written}
 
 bound : {A B : Type 0} (r : Result A CaptureFault) (f : A → Result B CaptureFault) (y : B) → captures.◌>>=◌ r f ≡ Ok y → (x : A) × (r ≡ Ok x) × (f x ≡ Ok y)
 bound (Ok x) f y h = (x, refl, h)
@@ -77,26 +75,25 @@ items_count n (item d rest) ws h =
     let e : ws ≡ first ∷ others = cc in
     rw e (ap suc (items_count (suc n) rest others others_is))
 
-script_few : (script : Items) (settings : Settings) (scenario : Scenario)
-    → (if nat_lt 65536 (item_count script) then Err (Refused Limit (Top (Of (codes "script")))) else scripts.◌>>=◌ (items_of 0 script) (λ ws. Ok (scenario_with settings ws))) ≡ Ok scenario
+length-items : (names : List (List ℕ)) (ws : List Written) → length (items_from names ws) ≡ length ws
+length-items names [] = refl
+length-items names (w ∷ ws) = ap suc (length-items (with_name names w.name) ws)
+
+script_few : (script : Items) (settings : Settings) (scenario : Scenario) (fault : Fault)
+    → (if nat_lt 65536 (item_count script) then Err fault else scripts.◌>>=◌ (items_of 0 script) (λ ws. Ok (scenario_with settings ws))) ≡ Ok scenario
     → length scenario.items ≤ 65536
-script_few script settings scenario h = by_test (nat_lt 65536 (item_count script)) refl h
+script_few script settings scenario fault h = by_test (nat_lt 65536 (item_count script)) refl h
   where
     by_test : (b : Bool) → nat_lt 65536 (item_count script) ≡ b
-        → (if b then Err (Refused Limit (Top (Of (codes "script")))) else scripts.◌>>=◌ (items_of 0 script) (λ ws. Ok (scenario_with settings ws))) ≡ Ok scenario → length scenario.items ≤ 65536
+        → (if b then Err fault else scripts.◌>>=◌ (items_of 0 script) (λ ws. Ok (scenario_with settings ws))) ≡ Ok scenario → length scenario.items ≤ 65536
     by_test true few h = absurd (cc)
     by_test false few h =
         let (ws, ws_is, is) = given (items_of 0 script) (λ ws. Ok (scenario_with settings ws)) scenario h in
         let e : scenario ≡ scenario_with settings ws = cc in
         let count : length ws ≡ item_count script = items_count 0 script ws ws_is in
-        rw (e, length-map) (grind (arith, nat_tests, few, count))
-
-values_few : (values : List Given) (scenario : Scenario) → scenario_by values ≡ Ok scenario → length scenario.items ≤ 65536
-values_few (Number hosts ∷ Number gateways ∷ Number workers ∷ Number hop_limit ∷ Number out_queue ∷ Number wire_queue ∷ Number seal_queue
-    ∷ Number threshold ∷ Number life ∷ Listed script ∷ []) scenario h = script_few script _ scenario h
-values_few _ scenario h = absurd (cc)
+        rw (e, length-items [] ws) (grind (arith, nat_tests, few, count))
 
 pub few_items : (value : Data) (scenario : Scenario) → scenario_of value ≡ Ok scenario → length scenario.items ≤ 65536
 few_items value scenario h =
-    let (values, values_are, is) = given (at_top (top_in value (as_object value))) scenario_by scenario h in
-    values_few values scenario is
+    let (values, values_are, is) = given (at_top (top_in value (as_object value))) (λ values. scripted (settings_by values) (script_in (get (codes "script") value))) scenario h in
+    script_few (script_in (get (codes "script") value)) (settings_by values) scenario _ is

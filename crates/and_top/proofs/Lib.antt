@@ -7,3 +7,4 @@ pub mod PlansLemmas
 pub mod Policing
 pub mod Puts
 pub mod Sourcing
+pub mod Tallies

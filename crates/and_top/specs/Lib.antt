@@ -1,6 +1,7 @@
 pub mod FirstForm
 pub mod Direct
 pub mod Report
+pub mod Texts
 pub mod Plans
 pub mod Sources
 pub mod Planners

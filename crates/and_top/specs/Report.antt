@@ -2,6 +2,7 @@
 use Rattle.std.specs.Prelude.{ℕ, suc, ◌==◌, ◌&&◌, ◌||◌, Bool, true, false, nat_lt, if◌then◌else◌, List, [], ◌∷◌, ◌++◌, length, codes, Option, Some, None}
 use Rattle.std.specs.List.{count_by, filter_map, concat, flat_map, list_any}
 use Rattle.std.specs.Fmt.{decimal}
+use Rattle.and_policy.specs.declared.packet.Skip.{Skip}
 use Rattle.and_policy.specs.declared.packet.Skip.TheVariants as skips
 use Rattle.and_policy.specs.declared.entry.EntryFault.{EntryFault}
 use Rattle.and_policy.specs.declared.entry.EntryFault.TheVariants as entry_faults
@@ -12,6 +13,7 @@ use Rattle.and_events.specs.declared.plan.SkipReason.{SkipReason}
 use Rattle.and_events.specs.declared.plan.SkipReason.TheVariants as reasons
 use Rattle.and_events.specs.declared.plan.Plan.{Plan}
 use Rattle.and_top.specs.declared.fate.Fate.{Fate}
+use Rattle.and_top.specs.declared.fate.Key.{Key}
 use Rattle.and_top.specs.declared.fate.Fate.TheVariants.{Delivered, Spoofed, NoVm, NoOwner, EgressDenied, IngressDenied, RouteDropped, InBlackout, AtFullQueue, OutOfHops}
 
 -- what a run is counted by
@@ -69,11 +71,6 @@ abbrev pub is_received : ℕ → Fate → Bool
 is_received vm (Delivered u) = u == vm
 is_received vm _ = false
 
--- a network and the number of a rule or route
-pub record Key : Type 0 where
-  pub net : ℕ
-  pub number : ℕ
-
 abbrev pub egress_key : Fate → Option Key
 egress_key (EgressDenied net number) = Some (record { net = net; number = number })
 egress_key _ = None
@@ -113,10 +110,10 @@ abbrev pub line : List (List ℕ) → List ℕ
 line ws = words ws ++ 10 ∷ []
 
 -- a line that stands always, and one that stands where its count is not 0
-abbrev pub counted : List ℕ → ℕ → List ℕ
+unfoldable pub counted : List ℕ → ℕ → List ℕ
 counted name n = line (name ∷ decimal n ∷ [])
 
-abbrev pub counted_if : List ℕ → ℕ → List ℕ
+unfoldable pub counted_if : List ℕ → ℕ → List ℕ
 counted_if name n = if n == 0 then [] else counted name n
 
 -- ---- the first nineteen lines
@@ -146,72 +143,34 @@ head_lines plan t = concat (
 
 -- ---- skipped frames
 
-abbrev pub is_too_long : ℕ × SkipReason → Bool
-is_too_long s = is_reason s.1
-  where
-    is_reason : SkipReason → Bool
-    is_reason (reasons.Frame skips.TooLong) = true
-    is_reason _ = false
+abbrev pub same_skip : Skip → Skip → Bool
+same_skip skips.TooLong skips.TooLong = true
+same_skip skips.Short skips.Short = true
+same_skip skips.NotIp4 skips.NotIp4 = true
+same_skip skips.Cut skips.Cut = true
+same_skip skips.BadIp4 skips.BadIp4 = true
+same_skip skips.ShortPorts skips.ShortPorts = true
+same_skip _ _ = false
 
-abbrev pub is_short : ℕ × SkipReason → Bool
-is_short s = is_reason s.1
-  where
-    is_reason : SkipReason → Bool
-    is_reason (reasons.Frame skips.Short) = true
-    is_reason _ = false
+abbrev pub same_reason : SkipReason → SkipReason → Bool
+same_reason (reasons.Frame a) (reasons.Frame b) = same_skip a b
+same_reason reasons.NoSource reasons.NoSource = true
+same_reason reasons.PausedSource reasons.PausedSource = true
+same_reason _ _ = false
 
-abbrev pub is_not_ip4 : ℕ × SkipReason → Bool
-is_not_ip4 s = is_reason s.1
-  where
-    is_reason : SkipReason → Bool
-    is_reason (reasons.Frame skips.NotIp4) = true
-    is_reason _ = false
-
-abbrev pub is_cut : ℕ × SkipReason → Bool
-is_cut s = is_reason s.1
-  where
-    is_reason : SkipReason → Bool
-    is_reason (reasons.Frame skips.Cut) = true
-    is_reason _ = false
-
-abbrev pub is_bad_ip4 : ℕ × SkipReason → Bool
-is_bad_ip4 s = is_reason s.1
-  where
-    is_reason : SkipReason → Bool
-    is_reason (reasons.Frame skips.BadIp4) = true
-    is_reason _ = false
-
-abbrev pub is_short_ports : ℕ × SkipReason → Bool
-is_short_ports s = is_reason s.1
-  where
-    is_reason : SkipReason → Bool
-    is_reason (reasons.Frame skips.ShortPorts) = true
-    is_reason _ = false
-
-abbrev pub is_no_source : ℕ × SkipReason → Bool
-is_no_source s = is_reason s.1
-  where
-    is_reason : SkipReason → Bool
-    is_reason reasons.NoSource = true
-    is_reason _ = false
-
-abbrev pub is_paused_source : ℕ × SkipReason → Bool
-is_paused_source s = is_reason s.1
-  where
-    is_reason : SkipReason → Bool
-    is_reason reasons.PausedSource = true
-    is_reason _ = false
+abbrev pub count_reason : SkipReason → List (ℕ × SkipReason) → ℕ
+count_reason reason skipped = count_by (λ s. same_reason reason s.1) skipped
 
 abbrev pub skip_lines : Plan → List ℕ
 skip_lines plan = concat (
-    counted_if (codes "skip TooLong") (count_by is_too_long plan.skipped)
-    ∷ counted_if (codes "skip Short") (count_by is_short plan.skipped)
-    ∷ counted_if (codes "skip NotIp4") (count_by is_not_ip4 plan.skipped)
-    ∷ counted_if (codes "skip Cut") (count_by is_cut plan.skipped)
-    ∷ counted_if (codes "skip BadIp4") (count_by is_bad_ip4 plan.skipped)
-    ∷ counted_if (codes "skip ShortPorts") (count_by is_short_ports plan.skipped)
-    ∷ counted_if (codes "skip NoSource") (count_by is_no_source plan.skipped)
-    ∷ counted_if (codes "skip PausedSource") (count_by is_paused_source plan.skipped)
+    counted_if (codes "skip TooLong") (count_reason (reasons.Frame skips.TooLong) plan.skipped)
+    ∷ counted_if (codes "skip Short") (count_reason (reasons.Frame skips.Short) plan.skipped)
+    ∷ counted_if (codes "skip NotIp4") (count_reason (reasons.Frame skips.NotIp4) plan.skipped)
+    ∷ counted_if (codes "skip Cut") (count_reason (reasons.Frame skips.Cut) plan.skipped)
+    ∷ counted_if (codes "skip BadIp4") (count_reason (reasons.Frame skips.BadIp4) plan.skipped)
+    ∷ counted_if (codes "skip ShortPorts") (count_reason (reasons.Frame skips.ShortPorts) plan.skipped)
+    ∷ counted_if (codes "skip NoSource") (count_reason reasons.NoSource plan.skipped)
+    ∷ counted_if (codes "skip PausedSource") (count_reason reasons.PausedSource plan.skipped)
     ∷ [])
 
 -- ---- drops
@@ -222,27 +181,28 @@ count_key key keys = count_by (same_key key) keys
 abbrev pub rule_words : ℕ → List (List ℕ)
 rule_words number = if number == 0 then codes "implied" ∷ [] else codes "rule" ∷ decimal number ∷ []
 
-abbrev pub egress_line : List Key → Key → List ℕ
-egress_line keys k = line (codes "drop egress" ∷ decimal k.net ∷ codes "rule" ∷ decimal k.number ∷ decimal (count_key k keys) ∷ [])
+-- what the line of a key says before its count
+abbrev pub egress_name : Key → List ℕ
+egress_name k = words (codes "drop egress" ∷ decimal k.net ∷ codes "rule" ∷ decimal k.number ∷ [])
 
-abbrev pub ingress_line : List Key → Key → List ℕ
-ingress_line keys k = line ((codes "drop ingress" ∷ decimal k.net ∷ rule_words k.number) ++ decimal (count_key k keys) ∷ [])
+abbrev pub ingress_name : Key → List ℕ
+ingress_name k = words (codes "drop ingress" ∷ decimal k.net ∷ rule_words k.number)
 
-abbrev pub route_line : List Key → Key → List ℕ
-route_line keys k = line (codes "drop route" ∷ decimal k.net ∷ decimal k.number ∷ decimal (count_key k keys) ∷ [])
+abbrev pub route_name : Key → List ℕ
+route_name k = words (codes "drop route" ∷ decimal k.net ∷ decimal k.number ∷ [])
 
 -- one line for each key, in order
-abbrev pub keyed_lines : (List Key → Key → List ℕ) → List Key → List ℕ
-keyed_lines key_line keys = flat_map (key_line keys) (in_order keys)
+unfoldable pub keyed_lines : (Key → List ℕ) → List Key → List ℕ
+keyed_lines name keys = flat_map (λ k. counted (name k) (count_key k keys)) (in_order keys)
 
 abbrev pub drop_lines : Tally → List ℕ
 drop_lines t = concat (
     counted_if (codes "drop spoofed") (count_by is_spoofed t.fates)
     ∷ counted_if (codes "drop novm") (count_by is_novm t.fates)
     ∷ counted_if (codes "drop noowner") (count_by is_noowner t.fates)
-    ∷ keyed_lines egress_line (filter_map egress_key t.fates)
-    ∷ keyed_lines ingress_line (filter_map ingress_key t.fates)
-    ∷ keyed_lines route_line (filter_map route_key t.fates)
+    ∷ keyed_lines egress_name (filter_map egress_key t.fates)
+    ∷ keyed_lines ingress_name (filter_map ingress_key t.fates)
+    ∷ keyed_lines route_name (filter_map route_key t.fates)
     ∷ [])
 
 -- ---- refused items

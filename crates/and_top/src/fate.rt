@@ -25,3 +25,21 @@ pub enum Fate {
     /// It is lost, since no hop was left.
     OutOfHops,
 }
+
+/// A network and the number of a rule or route.
+#[derive(Debug, Clone, Copy, PartialEq, Eq)]
+pub struct Key {
+    pub net: u32,
+    pub number: u32,
+}
+
+/// Where a packet is dropped by a rule or a route.
+#[derive(Debug, Clone, Copy, PartialEq, Eq)]
+pub enum Stage {
+    /// As it leaves its VM.
+    Egress,
+    /// As it comes to a VM.
+    Ingress,
+    /// At a gateway.
+    Route,
+}

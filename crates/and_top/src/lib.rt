@@ -4,8 +4,10 @@
 mod answers;
 mod captures;
 mod commands;
+mod counts;
 mod direct;
 mod directs;
+mod drops;
 mod fate;
 mod first_form;
 mod inputs;
@@ -14,8 +16,11 @@ mod plan;
 mod planner;
 mod policy;
 mod replaying;
+mod report;
 #[cfg(test)]
 mod tests;
+mod text;
+mod vms;
 mod words;
 mod written;
 

@@ -14,3 +14,4 @@ pub mod Ordered
 pub mod Script
 pub mod Sound
 pub mod Planned
+pub mod Asked

@@ -21,8 +21,8 @@ use crate::plan::Plan;
 use and_policy::plain::{landing_at, leaving, located_at, routed_at};
 use and_policy::{Landing, Leaving, Located, Port, Routed, flow_hash};
 
-// What the actor has in hand.
-fn hand_of(plan: &Plan, s: &State, actor: Actor) -> Option<Held>
+/// What the actor has in hand.
+pub(crate) fn hand_of(plan: &Plan, s: &State, actor: Actor) -> Option<Held>
     ensures { result ≡ flows.hand_at s.now.flow.hands (spec_places.hand_place plan.now.settings actor) }
 {
     at_or(&s.flow.hands, hand_place(&plan.settings, actor), None)

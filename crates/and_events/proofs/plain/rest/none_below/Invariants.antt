@@ -1,0 +1,7 @@
+use Rattle.std.proofs.Common.{ℕ, ◌<◌, ◌≡◌, [], None, take, length, get_or}
+use Rattle.std.specs.List.{All}
+use Rattle.and_events.specs.Legal.{IsRipe}
+use Rattle.and_events.proofs.plain.rest.none_below.Given as goal
+
+abbrev pub invariant-loop-vm : goal.invariant-loop-vm
+invariant-loop-vm l = (vm : ℕ) → vm < l.vm → IsRipe l.plan l.s l.host vm → ⊥

@@ -1,0 +1,141 @@
+//! When the system has come to rest, when a run is over, and which hairpins may be taken away.
+ghost use Rattle.std.specs.Prelude.{◌≡◌, ◌↔◌, ◌<◌, ℕ, [], None, IsTrue};
+ghost use Rattle.std.specs.List.{All};
+ghost use Rattle.and_policy.specs.declared.port.Port as port_type;
+ghost use Rattle.and_events.specs.Legal as spec;
+ghost use Rattle.and_events.specs.Ports as ports;
+
+use crate::event::Held;
+use crate::items::Items;
+use crate::plain::nodes::{NodeTest, nodes_pass};
+use crate::plain::ports::port_at;
+use crate::plain::state::State;
+use crate::plan::Plan;
+use and_policy::Port;
+
+// Whether nobody has a packet in hand.
+fn are_free(hands: &[Option<Held>]) -> bool
+    ensures { IsTrue result ↔ All (λ h. h ≡ None) hands.now }
+{
+    for hand in hands {
+        if hand.is_some() {
+            return false;
+        }
+    }
+    true
+}
+
+// Whether all queues are empty.
+fn are_empty(queues: &[Items<u32>]) -> bool
+    ensures { IsTrue result ↔ All (λ q. q ≡ []) queues.now }
+{
+    for queue in queues {
+        if !queue.is_empty() {
+            return false;
+        }
+    }
+    true
+}
+
+/// Whether the system has come to rest.
+pub(crate) fn is_at_rest(plan: &Plan, s: &State) -> bool
+    ensures { IsTrue result ↔ spec.IsAtRest plan.now s.now }
+{
+    are_free(&s.flow.hands) && nodes_pass(plan, s, NodeTest::Rests)
+}
+
+fn is_hairpin(port: Port) -> bool
+    ensures { IsTrue result ↔ ports.IsHairpin port }
+{
+    match port {
+        Port::Hairpin { .. } => true,
+        _ => false,
+    }
+}
+
+// Whether the list of ports has no hairpin.
+fn is_clear(row: &[Port]) -> bool
+    ensures { IsTrue result ↔ All (λ p. ports.IsHairpin p → ⊥) row.now }
+{
+    for port in row {
+        if is_hairpin(*port) {
+            return false;
+        }
+    }
+    true
+}
+
+// Whether there is no hairpin.
+fn are_clear(all: &[Items<Port>]) -> bool
+    ensures { IsTrue result ↔ All (λ row. All (λ p. ports.IsHairpin p → ⊥) row) all.now }
+{
+    for row in all {
+        if !is_clear(row.as_slice()) {
+            return false;
+        }
+    }
+    true
+}
+
+/// Whether the run is over but for its last event.
+pub(crate) fn is_over(plan: &Plan, s: &State) -> bool
+    ensures { IsTrue result ↔ spec.IsOver plan.now s.now }
+{
+    are_empty(&s.flow.queues)
+        && are_free(&s.flow.hands)
+        && nodes_pass(plan, s, NodeTest::Installed)
+        && are_clear(&s.ports)
+}
+
+/// Whether the VM's hairpin at the host is ripe: every node has installed the log entry that made it.
+pub(crate) fn is_ripe(plan: &Plan, s: &State, host: u32, vm: usize) -> bool
+    ensures { IsTrue result ↔ spec.IsRipe plan.now s.now host vm }
+{
+    match port_at(&s.ports, host as usize, vm) {
+        Port::Hairpin { entry, .. } => {
+            host < plan.settings.hosts && nodes_pass(plan, s, NodeTest::Has(entry))
+        }
+        _ => false,
+    }
+}
+
+// Whether none of the first VMs has a ripe hairpin at the host.
+fn none_below(plan: &Plan, s: &State, host: u32, count: usize) -> bool
+    ensures { IsTrue result ↔ ((vm : ℕ) → vm < count → spec.IsRipe plan.now s.now host vm → ⊥) }
+{
+    for vm in 0..count {
+        if is_ripe(plan, s, host, vm) {
+            return false;
+        }
+    }
+    true
+}
+
+// Whether no VM has a ripe hairpin at the host.
+#[tactic(auto, using(crate::proofs::Ripe::ripe_within))]
+fn none_at(plan: &Plan, s: &State, host: u32) -> bool
+    ensures { IsTrue result ↔ ((vm : ℕ) → spec.IsRipe plan.now s.now host vm → ⊥) }
+{
+    none_below(plan, s, host, s.ports.len())
+}
+
+// Whether no VM has a ripe hairpin at one of the first hosts.
+fn none_before(plan: &Plan, s: &State, hosts: u32) -> bool
+    ensures { IsTrue result ↔ ((host : ℕ) → host < hosts → (vm : ℕ) → spec.IsRipe plan.now s.now host vm → ⊥) }
+{
+    for host in 0..hosts {
+        if !none_at(plan, s, host) {
+            return false;
+        }
+    }
+    true
+}
+
+/// Whether this hairpin is the next to be taken away: the first of the ripe ones, by host, then by VM.
+pub(crate) fn can_unpin(plan: &Plan, s: &State, host: u32, vm: u32) -> bool
+    ensures { IsTrue result ↔ spec.CanUnpin plan.now s.now host vm }
+{
+    is_ripe(plan, s, host, vm as usize)
+        && none_before(plan, s, host)
+        && none_below(plan, s, host, vm as usize)
+}

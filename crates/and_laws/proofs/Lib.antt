@@ -1,0 +1,5 @@
+pub mod Places
+pub mod Sizes
+pub mod Moves
+pub mod LegalMoves
+pub mod Fates

@@ -3,3 +3,4 @@ pub mod Sizes
 pub mod Moves
 pub mod LegalMoves
 pub mod Fates
+pub mod Steps

@@ -1,2 +1,3 @@
 pub mod Sizes
 pub mod Fates
+pub mod Scripted

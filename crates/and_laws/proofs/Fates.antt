@@ -1,5 +1,5 @@
 -- Each packet has together as many fates and places as it was injected.
-use Rattle.std.proofs.Common.{◌≡◌, ℕ, ◌+◌, ◌*◌, ◌<◌, ◌≤◌, ◌==◌, cond, Bool, true, false, List, [], ◌∷◌, length, refl, arith, Option, Some, None}
+use Rattle.std.proofs.Common.{◌≡◌, ℕ, ◌+◌, ◌==◌, cond, true, false, List, [], ◌∷◌, length, refl, arith, Option, Some, None}
 use Rattle.std.specs.Prelude.{is_some}
 use Rattle.std.specs.List.{count_by}
 use Rattle.std.proofs.lemmas.List.Folds.{sum_by-replicate}
@@ -12,7 +12,7 @@ use Rattle.and_events.specs.Flow.{has_packet}
 use Rattle.and_events.specs.State.{state, start, after, move_of}
 use Rattle.and_events.specs.Legal.{Legal}
 use Rattle.and_events.specs.Run.{Run, fates, fate_of, is_it, injections, injected_by, places}
-use Rattle.and_laws.specs.Fates.{HasFatesAndPlaces, IsAccounted, injection_count, fate_count, queued_count, in_hand_count}
+use Rattle.and_laws.specs.Fates.{HasFatesAndPlaces, IsAccounted, queued_count, in_hand_count}
 use Rattle.and_laws.proofs.Places.{one_if, brought, taken_out, alone, as_one, placed_after, counted_after}
 use Rattle.and_laws.proofs.Sizes.{sizes}
 use Rattle.and_laws.proofs.Moves.{weigh, balance}

@@ -4,3 +4,5 @@ pub mod Moves
 pub mod LegalMoves
 pub mod Fates
 pub mod Steps
+pub mod Injected
+pub mod Complete

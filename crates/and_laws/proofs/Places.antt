@@ -1,5 +1,5 @@
 -- What a move does to the places of packets, whatever weight each packet has.
-use Rattle.std.proofs.Common.{◌≡◌, ℕ, ◌+◌, ◌<◌, Bool, true, false, ◌==◌, cond, List, [], ◌∷◌, ◌++◌, length, drop, set, refl, ap, arith, Option, Some, None, length-append}
+use Rattle.std.proofs.Common.{◌≡◌, ℕ, ◌+◌, ◌<◌, Bool, ◌==◌, cond, List, [], ◌∷◌, ◌++◌, length, drop, set, refl, ap, arith, Option, Some, None, length-append}
 use Rattle.std.proofs.lemmas.List.{get_or_past}
 use Rattle.std.specs.Prelude.{is_some}
 use Rattle.std.specs.List.{sum_by, count_by}
@@ -41,8 +41,13 @@ module _ (w : ℕ → ℕ) (queue : List ℕ → ℕ) (hand : Option Held → �
 
   pub popped_weighs : (queues : List (List ℕ)) (q j : ℕ) (rest : List ℕ) → queue_at queues q ≡ j ∷ rest → sum_by queue (popped queues q) + w j ≡ sum_by queue queues
   popped_weighs queues q j rest front =
-      omega (arith, sum_by-set queue queues q (drop 1 (queue_at queues q)) [] (front_within q j rest queues front),
-          ap (λ xs. queue (drop 1 xs)) front, ap queue front, weighs.at_front j rest)
+      omega (
+        arith,
+        sum_by-set queue queues q (drop 1 (queue_at queues q)) [] (front_within q j rest queues front),
+        ap (λ xs. queue (drop 1 xs)) front,
+        ap queue front,
+        weighs.at_front j rest,
+      )
 
   -- an empty hand takes a packet
   pub filled_weighs : (hands : List (Option Held)) (a : ℕ) (h : Held) → a < length hands → hand_at hands a ≡ None → sum_by hand (set hands a (Some h)) ≡ sum_by hand hands + w h.packet

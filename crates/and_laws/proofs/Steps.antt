@@ -1,18 +1,15 @@
 -- Each step of a sound plan fits the plain state that the steps before it give.
-use Rattle.std.proofs.Common.{◌≡◌, ℕ, zero, suc, ◌+◌, ◌<◌, ◌≤◌, List, [], ◌∷◌, length, take, refl, sym, ap, ◌∙◌, subst, arith, Option, Some, None, add-one}
+use Rattle.std.proofs.Common.{◌≡◌, ℕ, zero, suc, ◌+◌, ◌<◌, List, [], ◌∷◌, length, take, ap, ◌∙◌, subst, Option, Some, None, add-one}
 use Rattle.std.specs.Prelude.{slice_get}
 use Rattle.std.proofs.lemmas.Option.{slice_get_within}
 use Rattle.and_events.specs.declared.event.Event.{Event}
-use Rattle.and_events.specs.declared.event.Event.TheVariants.{Append, Review, Hold, Free, Wait, Inject, Blackout, Resume, Finish}
 use Rattle.and_events.specs.declared.plan.Step.{Step}
 use Rattle.and_events.specs.declared.plan.Step.TheVariants as steps
 use Rattle.and_events.specs.declared.plan.Plan.{Plan}
 use Rattle.and_events.specs.Script.{Script, at_start}
 use Rattle.and_events.specs.Sound.{IsSound, StepsFit, StepFits, EndsWell, after_step, sent_after}
-use Rattle.and_events.specs.State.{State, state, start, after, step_of}
-use Rattle.and_events.specs.Legal.{Legal}
-use Rattle.and_events.specs.Run.{Run}
-use Rattle.and_laws.specs.Scripted.{script_after_steps, sent_after_steps, steps_done, script_at, sent_at}
+use Rattle.and_events.specs.State.{state}
+use Rattle.and_laws.specs.Scripted.{script_after_steps, sent_after_steps, script_at, sent_at}
 
 -- what a plan says of a step in its place
 abbrev pub FitsAt : Plan → Script → ℕ → Option Step → Type 0

@@ -21,9 +21,10 @@ pub record IsInjectedOnce (plan : Plan) (h : List Event) : Type 0 where
 abbrev pub HasOneFateOrPlace : Plan → List Event → Type 0
 HasOneFateOrPlace plan h = (i : ℕ) → 0 < injections h i → length (fates h i) + places plan h i ≡ 1
 
--- each packet of the plan has exactly one fate
-abbrev pub HasOneFate : Plan → List Event → Type 0
-HasOneFate plan h = (i : ℕ) → i < length plan.packets → length (fates h i) ≡ 1
+-- each packet of the plan has exactly one fate, and there are no others
+pub record HasOneFate (plan : Plan) (h : List Event) : Type 0 where
+  pub one : (i : ℕ) → i < length plan.packets → length (fates h i) ≡ 1
+  pub no_other : (i : ℕ) → length plan.packets ≤ i → length (fates h i) ≡ 0
 
 -- ---- sums
 

@@ -3,4 +3,4 @@
 
 mod packets;
 
-pub use packets::{all_accounted, one_fate_or_place};
+pub use packets::{all_accounted, one_fate_at_the_end, one_fate_or_place};

@@ -6,3 +6,6 @@ pub mod Fates
 pub mod Steps
 pub mod Injected
 pub mod Complete
+pub mod Capacity
+pub mod Hops
+pub mod Losses

@@ -9,3 +9,4 @@ pub mod Complete
 pub mod Capacity
 pub mod Hops
 pub mod Losses
+pub mod Programmed

@@ -10,3 +10,5 @@ pub mod Capacity
 pub mod Hops
 pub mod Losses
 pub mod Programmed
+pub mod Lives
+pub mod Moving

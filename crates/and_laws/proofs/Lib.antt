@@ -12,3 +12,5 @@ pub mod Losses
 pub mod Programmed
 pub mod Lives
 pub mod Moving
+pub mod Rows
+pub mod PortMoves

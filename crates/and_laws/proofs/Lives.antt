@@ -2,7 +2,7 @@
 use Rattle.std.proofs.Common.{◌≡◌, ◌≢◌, ℕ, Bool, true, false, ◌&&◌, ◌||◌, not, List, [], ◌∷◌, ◌++◌, refl, sym, ap, ◌∙◌, arith, append-nil, Option, Some, None}
 use Rattle.std.specs.Prelude.{if◌then◌else◌, ◌==◌}
 use Rattle.std.specs.List.{list_any}
-use Rattle.std.proofs.lemmas.Bool.{cases_eq}
+use Rattle.std.proofs.lemmas.Bool.{cases_eq, or_parts}
 use Rattle.std.proofs.lemmas.Grind.{common_steps}
 use Rattle.and_policy.specs.declared.entry.Entry.{Entry}
 use Rattle.and_policy.specs.declared.entry.Entry.TheVariants.{AddNet, AddVm, RemoveVm, Place, AddRule, DelRule, AddRoute, DelRoute, Tick}
@@ -17,10 +17,6 @@ or_false false = refl
 or_assoc : (a b c : Bool) → (a || (b || c)) ≡ ((a || b) || c)
 or_assoc true b c = refl
 or_assoc false b c = refl
-
-pub neither : (a b : Bool) → (a || b) ≡ false → (a ≡ false) × (b ≡ false)
-neither true b e = absurd (cc)
-neither false b e = (refl, e)
 
 any_more : {X : Type 0} (p : X → Bool) (xs : List X) (y : X) → list_any p (xs ++ y ∷ []) ≡ (list_any p xs || p y)
 any_more p [] y = or_false (p y)
@@ -41,7 +37,7 @@ live_added k vm net mac ip host v =
 pub not_added : (k : List Entry) (v : ℕ) → list_any (λ x. x.number == v) (added k) ≡ false → is_live k v ≡ false
 not_added [] v e = refl
 not_added (AddVm w net mac ip host ∷ k) v e =
-    let both = neither (w == v) (list_any (λ x. x.number == v) (added k)) e in
+    let both = or_parts (w == v) (list_any (λ x. x.number == v) (added k)) e in
     let rest = not_added k v both.1 in
     any_unless (λ x. x.number == v) (list_any (removes w) k) (record { number = w; net = net; mac = mac; ip = ip; host = host }) (vms k)
     ∙ neither_kept (list_any (removes w) k) (w == v) (is_live k v) both.0 rest

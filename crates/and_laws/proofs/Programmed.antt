@@ -21,6 +21,7 @@ use Rattle.and_events.specs.State.{State, state, start, after, word_of, word_of_
 use Rattle.and_events.specs.Legal.{Legal}
 use Rattle.and_events.specs.Run.{Run}
 use Rattle.and_laws.specs.Programmed.{AreProgrammed}
+use Rattle.and_laws.proofs.Rows.{set_at}
 use Rattle.and_laws.proofs.Sizes.{nodes}
 
 -- ---- programmes that grow
@@ -29,14 +30,6 @@ pub entries-append : (xs ys : List Op) → entries (xs ++ ys) ≡ entries xs ++ 
 entries-append [] ys = refl
 entries-append (ops.Entry e ∷ xs) ys = ap (λ k. e ∷ k) (entries-append xs ys)
 entries-append (ops.Offload o ∷ xs) ys = entries-append xs ys
-
--- what stands at a place after a write, there or elsewhere
-pub set_at : {X : Type 0} (xs : List X) (k n : ℕ) (x d : X) (P : X → Type 0) → P (get_or xs n d) → (k ≡ n → P x) → P (get_or (set xs k x) n d)
-set_at [] k n x d P old new = old
-set_at (y ∷ ys) zero zero x d P old new = new refl
-set_at (y ∷ ys) zero (suc n) x d P old new = old
-set_at (y ∷ ys) (suc k) zero x d P old new = old
-set_at (y ∷ ys) (suc k) (suc n) x d P old new = set_at ys k n x d P old (λ e. new (ap suc e))
 
 -- a programme has the log, and is no shorter than it was
 pub record Grows (k : List Entry) (before after : List Op) : Type 0 where

@@ -3,3 +3,4 @@ pub mod Fates
 pub mod Scripted
 pub mod Limits
 pub mod Programmed
+pub mod LivePorts

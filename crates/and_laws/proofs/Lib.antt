@@ -14,3 +14,5 @@ pub mod Lives
 pub mod Moving
 pub mod Rows
 pub mod PortMoves
+pub mod PortFits
+pub mod StepFacts

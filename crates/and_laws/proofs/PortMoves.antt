@@ -16,7 +16,7 @@ seen_if : (b : Bool) (p q : Port) → without_hairpin (if b then p else q) ≡ (
 seen_if true p q = refl
 seen_if false p q = refl
 
-seen_set : (ports : List Port) (a x : ℕ) (p : Port) → a < length ports → port_seen (set ports a p) x ≡ (if x == a then without_hairpin p else port_seen ports x)
+pub seen_set : (ports : List Port) (a x : ℕ) (p : Port) → a < length ports → port_seen (set ports a p) x ≡ (if x == a then without_hairpin p else port_seen ports x)
 seen_set ports a x p there = ap without_hairpin (set_is ports a x p Absent there) ∙ seen_if (x == a) p (get_or ports x Absent)
 
 running_seen : (p : Port) → is_running (without_hairpin p) ≡ is_running p

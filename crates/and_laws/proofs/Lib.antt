@@ -16,3 +16,5 @@ pub mod Rows
 pub mod PortMoves
 pub mod PortFits
 pub mod StepFacts
+pub mod PortSteps
+pub mod Following

@@ -1,11 +1,11 @@
 -- Which VMs are live, and where, after one entry more.
-use Rattle.std.proofs.Common.{◌≡◌, ◌≢◌, ℕ, Bool, true, false, ◌&&◌, ◌||◌, not, List, [], ◌∷◌, ◌++◌, refl, sym, ap, ◌∙◌, arith, append-nil, Option, Some, None}
+use Rattle.std.proofs.Common.{◌≡◌, ℕ, Bool, true, false, ◌&&◌, ◌||◌, not, List, [], ◌∷◌, ◌++◌, refl, sym, ap, ◌∙◌, arith, append-nil, Option, Some, None}
 use Rattle.std.specs.Prelude.{if◌then◌else◌, ◌==◌}
 use Rattle.std.specs.List.{list_any}
 use Rattle.std.proofs.lemmas.Bool.{cases_eq, or_parts}
 use Rattle.std.proofs.lemmas.Grind.{common_steps}
 use Rattle.and_policy.specs.declared.entry.Entry.{Entry}
-use Rattle.and_policy.specs.declared.entry.Entry.TheVariants.{AddNet, AddVm, RemoveVm, Place, AddRule, DelRule, AddRoute, DelRoute, Tick}
+use Rattle.and_policy.specs.declared.entry.Entry.TheVariants.{AddVm, RemoveVm, Place}
 use Rattle.and_policy.specs.Logs.{Vm, vms, added, is_live, removes}
 use Rattle.and_policy.specs.Owners.{place, host_by, or_else}
 use Rattle.and_policy.proofs.Appends.{vms-append}

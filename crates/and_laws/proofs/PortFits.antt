@@ -1,5 +1,5 @@
 -- How the ports of a VM go on fitting where it is: it is added, removed, paused, arrives, or loses a hairpin.
-use Rattle.std.proofs.Common.{◌≡◌, ◌≢◌, ℕ, ◌+◌, ◌<◌, Bool, true, false, List, [], ◌∷◌, length, get_or, set, replicate, refl, sym, ap, ◌∙◌, subst, arith, Option, Some, None, length-set}
+use Rattle.std.proofs.Common.{◌≡◌, ◌≢◌, ℕ, ◌<◌, Bool, true, false, List, length, get_or, set, replicate, refl, sym, ap, ◌∙◌, subst, arith, Option, Some, None, length-set}
 use Rattle.std.specs.Prelude.{if◌then◌else◌, ◌==◌, unwrap_or}
 use Rattle.std.proofs.lemmas.Bool.{cases_eq}
 use Rattle.std.proofs.lemmas.Grind.{common_steps}
@@ -15,8 +15,8 @@ use Rattle.and_laws.proofs.PortMoves.{seen_set, leaves, comes}
 pub fits_as : (hosts : ℕ) {live live' : Bool} {at at' to to' : Option ℕ} {ports ports' : List Port} → live' ≡ live → at' ≡ at → to' ≡ to → ports' ≡ ports → FitsPorts hosts live at to ports → FitsPorts hosts live' at' to' ports'
 fits_as hosts {live} {live'} {at} {at'} {to} {to'} {ports} {ports'} l a t p f =
     subst (λ x. FitsPorts hosts x at' to' ports') (sym l)
-        (subst (λ x. FitsPorts hosts live x to' ports') (sym a)
-            (subst (λ x. FitsPorts hosts live at x ports') (sym t) (subst (λ x. FitsPorts hosts live at to x) (sym p) f)))
+    (subst (λ x. FitsPorts hosts live x to' ports') (sym a)
+    (subst (λ x. FitsPorts hosts live at x ports') (sym t) (subst (λ x. FitsPorts hosts live at to x) (sym p) f)))
 
 -- a VM that is added runs at its host
 pub fits_added : (hosts host : ℕ) (at to : Option ℕ) (ports : List Port) → host < hosts → length ports ≡ hosts → FitsPorts hosts false at to ports → FitsPorts hosts true (Some host) None (set ports host Running)
@@ -37,11 +37,15 @@ fits_paused hosts host (Some home) ports there all other (inside, rests) =
     let apart : home ≢ host = λ e. grind (arith, common_steps) in
     let paused : List Port = set ports home Paused in
     let first : home < length ports = subst (λ n. home < n) (sym all) inside in
-    let second : host < length paused = subst (λ n. host < n) (sym (length-set ports home Paused ∙ all)) there in
-    (inside, there, apart, λ x.
-        seen_set paused host x Arriving second
-        ∙ ap (λ p. if x == host then Arriving else p) (seen_set ports home x Paused first ∙ ap (λ p. if x == home then Paused else p) (rests x))
-        ∙ pause_seen x home host apart)
+    let second : host < length paused = subst (λ n. host < n) (sym (length-set ports home Paused ∙ all)) there in (
+      inside,
+      there,
+      apart,
+      λ x.
+          seen_set paused host x Arriving second
+          ∙ ap (λ p. if x == host then Arriving else p) (seen_set ports home x Paused first ∙ ap (λ p. if x == home then Paused else p) (rests x))
+          ∙ pause_seen x home host apart,
+    )
 
 -- one on its way runs at the other host, and a hairpin stays behind
 arrive_seen : (x home to : ℕ) → (if x == to then Running else (if x == home then Absent else moving_port home to x)) ≡ resting_port to x
@@ -53,14 +57,16 @@ fits_arrived hosts entry to (Some home) ports all (inside, there, apart, moves) 
     let behind : List Port = set ports home (Hairpin to entry) in
     let first : home < length ports = subst (λ n. home < n) (sym all) inside in
     let second : to < length behind = subst (λ n. to < n) (sym (length-set ports home (Hairpin to entry) ∙ all)) there in
-    let fits : FitsPorts hosts true (Some to) None (set behind to Running) =
-        (there, λ x.
-            seen_set behind to x Running second
-            ∙ ap (λ p. if x == to then Running else p) (seen_set ports home x (Hairpin to entry) first ∙ ap (λ p. if x == home then Absent else p) (moves x))
-            ∙ arrive_seen x home to)
-        in
+    let fits : FitsPorts hosts true (Some to) None (set behind to Running) = (
+      there,
+      λ x.
+          seen_set behind to x Running second
+          ∙ ap (λ p. if x == to then Running else p) (seen_set ports home x (Hairpin to entry) first ∙ ap (λ p. if x == home then Absent else p) (moves x))
+          ∙ arrive_seen x home to,
+    )
+    in
     subst (λ k. FitsPorts hosts true (Some to) None (set (set ports k (Hairpin (comes_to ports) entry)) (comes_to ports) Running)) (sym (leaves ports home to apart moves))
-        (subst (λ k. FitsPorts hosts true (Some to) None (set (set ports home (Hairpin k entry)) k Running)) (sym (comes ports home to apart moves)) fits)
+    (subst (λ k. FitsPorts hosts true (Some to) None (set (set ports home (Hairpin k entry)) k Running)) (sym (comes ports home to apart moves)) fits)
 
 pub comes_where : (hosts to : ℕ) (at : Option ℕ) (ports : List Port) → FitsPorts hosts true at (Some to) ports → comes_to ports ≡ to
 comes_where hosts to None ports f = absurd f

@@ -1,14 +1,14 @@
 -- What the moves of ports do to the ports of one VM.
-use Rattle.std.proofs.Common.{◌≡◌, ◌≢◌, ℕ, ◌+◌, ◌<◌, Bool, true, false, List, [], ◌∷◌, length, get_or, set, replicate, refl, sym, ap, ◌∙◌, subst, arith, Option, Some, None, length-set, ⊎_elim}
-use Rattle.std.specs.Prelude.{if◌then◌else◌, ◌==◌, position, unwrap_or}
+use Rattle.std.proofs.Common.{◌≡◌, ◌≢◌, ℕ, ◌<◌, Bool, true, false, List, length, get_or, set, refl, sym, ap, ◌∙◌, arith}
+use Rattle.std.specs.Prelude.{if◌then◌else◌, ◌==◌, unwrap_or}
 use Rattle.std.specs.List.{count_by}
 use Rattle.std.proofs.lemmas.Bool.{cases_eq}
 use Rattle.std.proofs.lemmas.Grind.{common_steps}
 use Rattle.and_policy.specs.declared.port.Port.{Port}
 use Rattle.and_policy.specs.declared.port.Port.TheVariants.{Absent, Running, Paused, Arriving, Hairpin}
-use Rattle.and_events.specs.Ports.{is_running, is_paused, is_arriving, IsHairpin, leaves_host, comes_to}
-use Rattle.and_laws.specs.LivePorts.{without_hairpin, port_seen, resting_port, moving_port, FitsPorts}
-use Rattle.and_laws.proofs.Rows.{set_is, within, replicate_at, position_is, count_none, count_one}
+use Rattle.and_events.specs.Ports.{is_running, is_paused, is_arriving, leaves_host, comes_to}
+use Rattle.and_laws.specs.LivePorts.{without_hairpin, port_seen, resting_port, moving_port}
+use Rattle.and_laws.proofs.Rows.{set_is, position_is, count_none, count_one}
 
 -- ---- one port
 

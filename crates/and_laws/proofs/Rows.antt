@@ -1,5 +1,5 @@
 -- Lists that are written at one place; the one place at which a test passes.
-use Rattle.std.proofs.Common.{◌≡◌, ◌≢◌, ℕ, zero, suc, ◌+◌, ◌<◌, ◌≤◌, Bool, true, false, cond, List, [], ◌∷◌, length, get_or, set, replicate, refl, sym, ap, ◌∙◌, arith, Option, Some, None, ⊎_elim}
+use Rattle.std.proofs.Common.{◌≡◌, ◌≢◌, ℕ, zero, suc, ◌+◌, ◌<◌, Bool, true, false, cond, List, [], ◌∷◌, length, get_or, set, replicate, refl, ap, ◌∙◌, arith, Some}
 use Rattle.std.specs.Prelude.{if◌then◌else◌, ◌==◌, position}
 use Rattle.std.specs.List.{count_by, position_from}
 use Rattle.std.proofs.lemmas.List.{get_or-set_same, get_or-set_other}

@@ -1,11 +1,10 @@
 -- How many queues, hands, packets, nodes and ports a state has: no event changes it.
-use Rattle.std.proofs.Common.{◌≡◌, ℕ, ◌<◌, Bool, true, false, List, [], ◌∷◌, length, get_or, set, refl, sym, ap, arith, ◌∙◌, length-set, Option, Some, None}
+use Rattle.std.proofs.Common.{◌≡◌, ℕ, ◌<◌, Bool, true, false, List, [], ◌∷◌, length, set, refl, ap, arith, ◌∙◌, length-set, Option, Some, None}
 use Rattle.std.proofs.lemmas.List.{length-map, length-replicate, get_or-replicate}
 use Rattle.std.proofs.lemmas.Nat.{mul-add-lt}
 use Rattle.std.specs.Prelude.{slice_get}
 use Rattle.and_policy.specs.declared.entry.Op.{Op}
 use Rattle.and_policy.specs.declared.port.Port.{Port}
-use Rattle.and_policy.specs.declared.port.Port.TheVariants.{Absent}
 use Rattle.and_events.specs.declared.event.Actor.{Actor}
 use Rattle.and_events.specs.declared.event.Actor.TheVariants.{HostInstall, GateInstall, Worker, Coproc, Gateway, Controller, Driver}
 use Rattle.and_events.specs.declared.event.Event.{Event}

@@ -1,17 +1,15 @@
 -- What it says of the plain state that a step fits.
-use Rattle.std.proofs.Common.{◌≡◌, ◌≢◌, ℕ, ◌<◌, Bool, true, false, not, List, [], ◌∷◌, refl, arith, Option, Some, None}
+use Rattle.std.proofs.Common.{◌≡◌, ℕ, ◌<◌, Bool, true, false, not, refl, arith, Option, Some, None}
 use Rattle.std.specs.Prelude.{nat_lt, if◌then◌else◌}
 use Rattle.std.proofs.lemmas.Grind.{common_steps}
 use Rattle.and_policy.specs.declared.entry.Entry.TheVariants as entries
 use Rattle.and_policy.specs.declared.entry.EntryFault.{EntryFault}
-use Rattle.and_policy.specs.Checks.{first_failing}
 use Rattle.and_policy.specs.Logs.{is_live}
 use Rattle.and_policy.specs.Owners.{place}
-use Rattle.and_policy.specs.Fitting.{fits}
 use Rattle.and_events.specs.declared.plan.Item.TheVariants as items
 use Rattle.and_events.specs.declared.plan.ItemFault.{ItemFault}
 use Rattle.and_events.specs.declared.plan.Plan.{Plan}
-use Rattle.and_events.specs.Script.{Script, item_fault, entry_first, is_moving, is_place}
+use Rattle.and_events.specs.Script.{Script, entry_first, is_moving, is_place}
 use Rattle.and_events.specs.Sound.{Fits}
 use Rattle.and_laws.proofs.Lives.{not_added}
 

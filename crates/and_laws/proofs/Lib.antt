@@ -18,3 +18,4 @@ pub mod PortFits
 pub mod StepFacts
 pub mod PortSteps
 pub mod Following
+pub mod AllDone

@@ -4,3 +4,4 @@ pub mod Scripted
 pub mod Limits
 pub mod Programmed
 pub mod LivePorts
+pub mod Ends

@@ -1,4 +1,4 @@
-/* Wraps a frame of 1,400 bytes and reads it back, ten million times: the plainest C of what a parcel does. */
+/* Wraps a frame of 1,400 bytes and reads it back, ROUNDS times: the plainest C of what a parcel does. */
 #include <stddef.h>
 #include <stdint.h>
 #include <stdio.h>
@@ -63,15 +63,20 @@ static int read_outer(const uint8_t *bytes, size_t len, struct outer *o) {
     return 0;
 }
 
-int main(void) {
+int main(int argc, char **argv) {
+    if (argc != 2) {
+        puts("usage: plain ROUNDS");
+        return 1;
+    }
+    uint32_t rounds = (uint32_t)strtoul(argv[1], NULL, 10);
     size_t len = OUTER_LEN + 1400;
     uint8_t *bytes = calloc(len, 1);
     if (!bytes) return 1;
     struct outer o = {0xac100001, 0xac110001, 16, 7, 49589, 0}, read;
     uint32_t sum = 0;
-    for (uint32_t i = 0; i < 10000000; i++) {
-        o.ttl = i % 256;
-        o.vni = i;
+    for (uint32_t i = 0; i < rounds; i++) {
+        o.vni = i % 16777216;
+        o.ttl = o.vni % 256;
         wrap(bytes, len, &o);
         if (read_outer(bytes, len, &read) == 0) sum = sum * 31 + read.vni + read.ttl;
     }

@@ -7,16 +7,18 @@ use Rattle.and_events.specs.declared.plan.Plan.{Plan}
 use Rattle.and_events.specs.Places.{actor_number, node_of}
 use Rattle.and_events.specs.State.{State, state, announced_of, installed_of}
 
--- what the actor's node had installed just before its last Take of the packet
-unfoldable pub last_take : Plan → List Event → Actor → ℕ → ℕ
-last_take plan [] a i = 0
-last_take plan (Take b q j ∷ h) a i =
-    if (actor_number plan.settings b == actor_number plan.settings a) && (j == i) then installed_of plan (state plan h) (node_of b) else last_take plan h a i
-last_take plan (e ∷ h) a i = last_take plan h a i
+-- what the actor's node had installed just before the actor's last Take of the packet; none where it never took it
+unfoldable pub installed_at_take : Plan → List Event → Actor → ℕ → Option ℕ
+installed_at_take plan [] a i = None
+installed_at_take plan (Take b q j ∷ h) a i =
+    if (actor_number plan.settings b == actor_number plan.settings a) && (j == i) then Some (installed_of plan (state plan h) (node_of a))
+    else installed_at_take plan h a i
+installed_at_take plan (e ∷ h) a i = installed_at_take plan h a i
 
 -- a decision at this number is no older than that, and was announced before
 abbrev pub FreshAt : Plan → List Event → Actor → ℕ → ℕ → Type 0
-FreshAt plan h a i at = (last_take plan h a i ≤ at) × (at ≤ announced_of plan (state plan h) (node_of a))
+FreshAt plan h a i at =
+    ((need : ℕ) × (installed_at_take plan h a i ≡ Some need) × (need ≤ at)) × (at ≤ announced_of plan (state plan h) (node_of a))
 
 -- what an event decides: who, of which packet, at which number
 pub record Decided : Type 0 where

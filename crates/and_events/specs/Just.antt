@@ -13,6 +13,7 @@ use Rattle.and_policy.specs.declared.port.Port.TheVariants as port_states
 use Rattle.and_policy.specs.Egress.{egress}
 use Rattle.and_policy.specs.Owners.{routed, located}
 use Rattle.and_policy.specs.Ingress.{landing}
+use Rattle.and_policy.specs.FlowHash.{gateway_of}
 use Rattle.and_events.specs.declared.event.Node.{Node}
 use Rattle.and_events.specs.declared.event.Node.TheVariants.{Host}
 use Rattle.and_events.specs.declared.event.Endpoint.{Endpoint}
@@ -34,7 +35,7 @@ use Rattle.and_events.specs.declared.event.Event.TheVariants.{Append, Review, Ho
 use Rattle.and_events.specs.declared.plan.Plan.{Plan}
 use Rattle.and_events.specs.Places.{queue_place, capacity_at, node_of}
 use Rattle.and_events.specs.Flow.{queue_at}
-use Rattle.and_events.specs.Ports.{port_at, IsHairpin}
+use Rattle.and_events.specs.Ports.{port_at}
 use Rattle.and_events.specs.State.{State, state, packet_at, tuple_at, source_net, home, node_at, dest_endpoint, host_of, carried_at}
 use Rattle.and_events.specs.Legal.{entries_at, Owns}
 use Rattle.and_events.specs.Run.{fate_of, is_it, sends}
@@ -135,7 +136,9 @@ JustBy plan h (Inject step i full) = IsFull plan (state plan h) (queue_place pla
 JustBy plan h (Egress a i at way NoVm) = egress (entries_at plan (state plan h) a at) (packet_at plan i).vm (tuple_at plan i) ≡ exits.NoVm
 JustBy plan h (Egress a i at way Spoofed) = egress (entries_at plan (state plan h) a at) (packet_at plan i).vm (tuple_at plan i) ≡ exits.Spoofed
 JustBy plan h (Egress a i at way (Denied n)) = egress (entries_at plan (state plan h) a at) (packet_at plan i).vm (tuple_at plan i) ≡ exits.Denied n
-JustBy plan h (Egress a i at way (Allowed by true dest end)) = IsFull plan (state plan h) (queue_place plan.settings (node_of a) Seal)
+JustBy plan h (Egress a i at way (Allowed by true dest Queued)) = Unit {0}
+JustBy plan h (Egress a i at way (Allowed by true dest Full)) = IsFull plan (state plan h) (queue_place plan.settings (node_of a) Seal)
+JustBy plan h (Egress a i at way (Allowed by true dest Hops)) = ⊥
 JustBy plan h (Egress a i at way (Allowed by false dest end)) = LostAt plan h i (dest_endpoint dest) end
 JustBy plan h (Sealed a i end) = LostAt plan h i (carried_at (state plan h) i).target end
 JustBy plan h (Route a i at (passages.Dropped by)) =
@@ -158,9 +161,14 @@ JustBy plan h (Ingress a i at way (arrivals.Blackout vm)) =
     LandsFor plan h i (entries_at plan (state plan h) a at) vm
     × ((port_at (state plan h).ports (host_of (node_of a)) vm ≡ port_states.Paused) ⊎ (port_at (state plan h).ports (host_of (node_of a)) vm ≡ port_states.Arriving))
 JustBy plan h (Ingress a i at way (arrivals.Hairpin vm host end)) =
-    IsHairpin (port_at (state plan h).ports (host_of (node_of a)) vm) × LostAt plan h i (endpoints.Host host) end
+    LandsFor plan h i (entries_at plan (state plan h) a at) vm
+    × ((entry : ℕ) × (port_at (state plan h).ports (host_of (node_of a)) vm ≡ port_states.Hairpin host entry))
+    × LostAt plan h i (endpoints.Host host) end
 JustBy plan h (Ingress a i at way (arrivals.Absent vm gateway end)) =
-    (port_at (state plan h).ports (host_of (node_of a)) vm ≡ port_states.Absent) × LostAt plan h i (endpoints.Redirect gateway) end
+    LandsFor plan h i (entries_at plan (state plan h) a at) vm
+    × (port_at (state plan h).ports (host_of (node_of a)) vm ≡ port_states.Absent)
+    × (gateway ≡ gateway_of plan.settings.gateways (tuple_at plan i))
+    × LostAt plan h i (endpoints.Redirect gateway) end
 JustBy plan h _ = Unit {0}
 
 -- every fate of the packet has its reason

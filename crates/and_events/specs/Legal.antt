@@ -59,7 +59,7 @@ EndsAt plan s q Queued = HasRoom (capacity_at plan.settings) s.flow q
 EndsAt plan s q Full = (q < length s.flow.queues) × (length (queue_at s.flow.queues q) ≡ capacity_at plan.settings q)
 EndsAt plan s q Hops = ⊥
 
--- a send of the packet to this endpoint ends so. The hops are looked at first
+-- a send of the packet to this endpoint ends so. The hops are looked at first. In a run of a sound plan the policy's target is always a node
 abbrev pub Sends : Plan → State → ℕ → Endpoint → End → Type 0
 Sends plan s i target Hops = (carried_at s i).hops ≡ 0
 Sends plan s i target end =
@@ -110,7 +110,7 @@ pub record IsAtRest (plan : Plan) (s : State) : Type 0 where
   pub queues : (node : Node) (q : Queue) → IsNode plan.settings node → HasQueue node q → forward_held plan s node ≡ false
       → queue_at s.flow.queues (queue_place plan.settings node q) ≡ []
 
--- the condition of the end
+-- the condition of Finish
 pub record IsOver (plan : Plan) (s : State) : Type 0 where
   pub queues : All (λ q. q ≡ []) s.flow.queues
   pub hands : All (λ h. h ≡ None) s.flow.hands
@@ -159,7 +159,7 @@ CanUnpin plan s host vm = IsRipe plan s host vm × ((h v : ℕ) → IsRipe plan 
 
 -- ---- takes
 
--- an actor that takes packets from this queue now: a host worker from `out` only where `wire` is empty
+-- the actor may take from this queue now: a host worker from `out` only where `wire` is empty
 abbrev pub TakesFrom : Plan → State → Actor → Queue → Type 0
 TakesFrom plan s (Worker h w) Wire = Unit {0}
 TakesFrom plan s (Worker h w) Out = queue_at s.flow.queues (queue_place plan.settings (Host h) Wire) ≡ []

@@ -39,7 +39,7 @@ queue_place s node Wire = 2 * s.hosts + node_place s node
 abbrev pub queue_count : Settings → ℕ
 queue_count s = 3 * s.hosts + s.gateways
 
--- how many packets the queue at a place holds
+-- how many packets the queue at a place may hold
 abbrev pub capacity_at : Settings → ℕ → ℕ
 capacity_at s q = if nat_lt q s.hosts then s.out_queue else (if nat_lt q (2 * s.hosts) then s.seal_queue else s.wire_queue)
 
@@ -80,7 +80,7 @@ IsActor s (Gateway g) = g < s.gateways
 IsActor s Controller = Unit {0}
 IsActor s Driver = Unit {0}
 
--- the node at which an actor works. Controller and driver work at none
+-- the node at which an actor works. Controller and driver work at none; host 0 stands in for it, and no definition asks
 abbrev pub node_of : Actor → Node
 node_of (HostInstall h) = Host h
 node_of (GateInstall g) = Gate g
@@ -120,6 +120,6 @@ actor_of (Ingress a i at way r) = a
 actor_of (Unpin host vm) = Controller
 actor_of _ = Driver
 
--- the seat of an actor among so many threads; on one thread all have seat 0
+-- the seat of an actor: 1 + its number modulo the threads; with 0 threads, as a replay has it, all have seat 0
 abbrev pub seat_of : ℕ → Settings → Actor → ℕ
 seat_of threads s a = if threads == 0 then 0 else 1 + actor_number s a % threads

@@ -8,7 +8,7 @@ pub data PortMove : Type 0 where
   Unmoved : PortMove
   Boot : (host vm : ℕ) → PortMove  -- the VM runs there
   Halt : (vm : ℕ) → PortMove  -- it has no port any more
-  Pause : (vm old new : ℕ) → PortMove  -- it is on its way
+  Pause : (vm old new : ℕ) → PortMove  -- paused at the old host, arriving at the new
   Arrive : (vm old new entry : ℕ) → PortMove  -- it runs at the new host, by this log entry
   Unpinned : (host vm : ℕ) → PortMove  -- its hairpin there goes
 

@@ -57,7 +57,7 @@ abbrev pub IsTarget : Target → Type 0
 IsTarget (targets.Peer net) = IsVni net
 IsTarget _ = Unit {0}
 
--- the numbers of an entry are in their ranges, and a VM's is that of a name
+-- the numbers of an entry are in their ranges, and a VM's is that of a name. A bound that a field's type gives is not said again
 abbrev pub IsEntry : ℕ → Entry → Type 0
 IsEntry names (AddNet net) = IsVni net
 IsEntry names (AddVm vm net mac ip host) = (vm < names) × IsVni net × (mac < 2 ^ 48)

@@ -129,7 +129,7 @@ pub enum Event {
     Append {
         step: u32,
     },
-    /// The controller gives offload orders by the usage since the last review.
+    /// Offload orders are given by the usage since the last review, and the usage starts anew.
     Review {
         step: u32,
     },
@@ -225,7 +225,7 @@ pub enum Event {
 /// A line of a book: an event, and the seat of the thread that wrote it.
 #[derive(Clone, Copy, PartialEq, Eq)]
 pub struct Line {
-    /// The thread's seat; 0 on one thread.
+    /// The seat of its actor's thread; 0 in a run without threads.
     pub seat: u32,
     /// The event.
     pub event: Event,
@@ -260,8 +260,8 @@ pub struct Carried {
     pub hops: u32,
     /// Whether it goes sealed.
     pub sealed: bool,
-    /// The VNI of its last send, or while it waits to be sealed of the send that was decided.
+    /// The VNI of its last send, or while it waits to be sealed of the send that was decided; 0 before its Egress.
     pub net: u32,
-    /// Where that send goes.
+    /// Where that send goes; host 0 before its Egress.
     pub target: Endpoint,
 }

@@ -42,7 +42,7 @@ pub enum Step {
 pub enum ItemFault {
     /// Its entry does not fit the log.
     Entry(EntryFault),
-    /// Installs at the VM's host are held.
+    /// Installs are held at the host that the item names: the new VM's host, or the target of a blackout.
     Held,
     /// The VM is in a blackout.
     Paused,

@@ -24,7 +24,9 @@ pub struct RealFiles<R: rt::Files + Drop> {
 
 impl<R: rt::Files + Drop> RealFiles<R> {
     /// The files that this runtime reaches, with all counts at 0.
-    pub fn make(rt: R) -> RealFiles<R> {
+    pub fn make(rt: R) -> RealFiles<R>
+        ensures { (result.read_faults ≡ 0) × (result.write_faults ≡ 0) × (result.taken ≡ 0) }
+    {
         RealFiles {
             rt,
             read_faults: 0,

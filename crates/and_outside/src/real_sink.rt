@@ -16,7 +16,9 @@ pub struct RealSink<W: Write + Drop> {
 
 impl<W: Write + Drop> RealSink<W> {
     /// A sink over this writer, with its count at 0.
-    pub fn make(writer: W) -> RealSink<W> {
+    pub fn make(writer: W) -> RealSink<W>
+        ensures { (result.writer ≡ writer) × (result.faults ≡ 0) }
+    {
         RealSink { writer, faults: 0 }
     }
 

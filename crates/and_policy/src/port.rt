@@ -3,7 +3,7 @@
 /// The port of a VM at a host.
 #[derive(Clone, Copy, PartialEq, Eq)]
 pub enum Port {
-    /// The VM is not known here.
+    /// The VM has no port here.
     Absent,
     /// The VM runs here.
     Running,
@@ -18,7 +18,7 @@ pub enum Port {
 /// What usage is counted by. Keys are ordered by host, then network, then address.
 #[derive(Clone, Copy, PartialEq, Eq)]
 pub struct UsageKey {
-    /// The host of the source VM.
+    /// The host whose worker let the packets leave.
     pub host: u32,
     /// The source network.
     pub net: u32,

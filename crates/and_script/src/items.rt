@@ -1,5 +1,5 @@
 //! The items of a script.
-ghost use Rattle.std.specs.Prelude.{◌≡◌, option_map};
+ghost use Rattle.std.specs.Prelude.{◌≡◌, ℕ, option_map};
 ghost use Rattle.serde_json.specs.View.{view};
 ghost use Rattle.serde_json.specs.Find.{get};
 ghost use Rattle.and_script.specs.Tables.{text_in, has_peer};
@@ -86,22 +86,18 @@ fn target_by(toward: Toward, values: &[Given]) -> Target
     }
 }
 
-/// The item, whose VM has this number.
-pub(crate) fn item_with(vm: u32, command: Command, values: &[Given]) -> Item
-    ensures { result ≡ grammar.item_with vm command values.now }
+/// The item that adds the VM of this number.
+fn vm_item(vm: u32, values: &[Given]) -> Item
+    ensures { result ≡ grammar.item_with vm Command.AddVm values.now }
 {
-    match (command, values) {
-        (Command::AddNet, [Given::Number(net)]) => Item::Entry(Entry::AddNet { net: *net }),
-        (
-            Command::AddVm,
-            [
-                Given::Named,
-                Given::Number(net),
-                Given::Address(mac),
-                Given::Number(ip),
-                Given::Number(host),
-            ],
-        ) => {
+    match values {
+        [
+            Given::Named,
+            Given::Number(net),
+            Given::Address(mac),
+            Given::Number(ip),
+            Given::Number(host),
+        ] => {
             Item::Entry(Entry::AddVm {
                 vm,
                 net: *net,
@@ -110,29 +106,34 @@ pub(crate) fn item_with(vm: u32, command: Command, values: &[Given]) -> Item
                 host: *host,
             })
         }
-        (Command::RemoveVm, [Given::Named]) => Item::Entry(Entry::RemoveVm { vm }),
-        (
-            Command::AddRule,
-            [
-                Given::Number(net),
-                Given::Number(number),
-                Given::Priority(priority),
-                Given::Sided(side),
-                Given::Allows(allow),
-                Given::OfProtocol(protocol),
-                Given::Within(source),
-                Given::Within(destination),
-                Given::Between {
-                    low: source_low,
-                    high: source_high,
-                },
-                Given::Between {
-                    low: destination_low,
-                    high: destination_high,
-                },
-                Given::Allows(sealed),
-            ],
-        ) => Item::Entry(Entry::AddRule {
+        _ => Item::Wait,
+    }
+}
+
+/// The item that adds a rule.
+fn rule_item(values: &[Given]) -> Item
+    ensures { (vm : ℕ) → result ≡ grammar.item_with vm Command.AddRule values.now }
+{
+    match values {
+        [
+            Given::Number(net),
+            Given::Number(number),
+            Given::Priority(priority),
+            Given::Sided(side),
+            Given::Allows(allow),
+            Given::OfProtocol(protocol),
+            Given::Within(source),
+            Given::Within(destination),
+            Given::Between {
+                low: source_low,
+                high: source_high,
+            },
+            Given::Between {
+                low: destination_low,
+                high: destination_high,
+            },
+            Given::Allows(sealed),
+        ] => Item::Entry(Entry::AddRule {
             net: *net,
             rule: Rule {
                 number: *number,
@@ -149,22 +150,22 @@ pub(crate) fn item_with(vm: u32, command: Command, values: &[Given]) -> Item
                 destination_high: *destination_high,
             },
         }),
-        (Command::DelRule, [Given::Number(net), Given::Number(number)]) => Item::Entry(
-            Entry::DelRule {
-                net: *net,
-                number: *number,
-            },
-        ),
-        (
-            Command::AddRoute,
-            [
-                Given::Number(net),
-                Given::Number(number),
-                Given::Within(prefix),
-                Given::Going(toward),
-                rest @ ..,
-            ],
-        ) => {
+        _ => Item::Wait,
+    }
+}
+
+/// The item that adds a route.
+fn route_item(values: &[Given]) -> Item
+    ensures { (vm : ℕ) → result ≡ grammar.item_with vm Command.AddRoute values.now }
+{
+    match values {
+        [
+            Given::Number(net),
+            Given::Number(number),
+            Given::Within(prefix),
+            Given::Going(toward),
+            rest @ ..,
+        ] => {
             Item::Entry(Entry::AddRoute {
                 net: *net,
                 route: Route {
@@ -174,6 +175,26 @@ pub(crate) fn item_with(vm: u32, command: Command, values: &[Given]) -> Item
                 },
             })
         }
+        _ => Item::Wait,
+    }
+}
+
+/// The item, whose VM has this number.
+pub(crate) fn item_with(vm: u32, command: Command, values: &[Given]) -> Item
+    ensures { result ≡ grammar.item_with vm command values.now }
+{
+    match (command, values) {
+        (Command::AddVm, _) => vm_item(vm, values),
+        (Command::AddRule, _) => rule_item(values),
+        (Command::AddRoute, _) => route_item(values),
+        (Command::AddNet, [Given::Number(net)]) => Item::Entry(Entry::AddNet { net: *net }),
+        (Command::RemoveVm, [Given::Named]) => Item::Entry(Entry::RemoveVm { vm }),
+        (Command::DelRule, [Given::Number(net), Given::Number(number)]) => Item::Entry(
+            Entry::DelRule {
+                net: *net,
+                number: *number,
+            },
+        ),
         (Command::DelRoute, [Given::Number(net), Given::Number(number)]) => Item::Entry(
             Entry::DelRoute {
                 net: *net,

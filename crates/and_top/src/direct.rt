@@ -11,7 +11,7 @@ use crate::directs::directs;
 use crate::drops::put_stage;
 use crate::fate::{Fate, Stage};
 use crate::lists::{put_items, put_vms};
-use crate::rows::{Row, put, put_rows, put_some_rows};
+use crate::rows::{Row, put, put_rows, put_some_rows, row};
 use crate::skips;
 use and_events::{Plan, SkipReason};
 use and_policy::NoMemory;
@@ -24,78 +24,24 @@ fn head_rows(plan: &Plan, fates: &[Fate], c: Counts) -> [Row; 18]
     ensures { map row_view result ≡ report.head_rows plan.now (tally_of fates.now) }
 {
     [
-        Row {
-            name: "frames",
-            count: plan.frames as u64,
-        },
-        Row {
-            name: "skipped",
-            count: plan.skipped.len() as u64,
-        },
-        Row {
-            name: "unsent",
-            count: plan.unsent as u64,
-        },
-        Row {
-            name: "injected",
-            count: plan.packets.len() as u64,
-        },
-        Row {
-            name: "delivered",
-            count: c.delivered,
-        },
-        Row {
-            name: "dropped",
-            count: c.dropped,
-        },
-        Row {
-            name: "lost blackout",
-            count: c.in_blackout,
-        },
-        Row {
-            name: "lost queue",
-            count: c.at_full_queue,
-        },
-        Row {
-            name: "lost hops",
-            count: c.out_of_hops,
-        },
-        Row {
-            name: "sends",
-            count: c.sends,
-        },
-        Row {
-            name: "offload",
-            count: 0,
-        },
-        Row {
-            name: "hover",
-            count: c.hovers,
-        },
-        Row {
-            name: "hairpin",
-            count: 0,
-        },
-        Row {
-            name: "redirect",
-            count: 0,
-        },
-        Row {
-            name: "fast",
-            count: 0,
-        },
-        Row {
-            name: "slow",
-            count: c.slow,
-        },
-        Row {
-            name: "orders",
-            count: 0,
-        },
-        Row {
-            name: "refused",
-            count: plan.refused.len() as u64,
-        },
+        row("frames", plan.frames as u64),
+        row("skipped", plan.skipped.len() as u64),
+        row("unsent", plan.unsent as u64),
+        row("injected", plan.packets.len() as u64),
+        row("delivered", c.delivered),
+        row("dropped", c.dropped),
+        row("lost blackout", c.in_blackout),
+        row("lost queue", c.at_full_queue),
+        row("lost hops", c.out_of_hops),
+        row("sends", c.sends),
+        row("offload", 0),
+        row("hover", c.hovers),
+        row("hairpin", 0),
+        row("redirect", 0),
+        row("fast", 0),
+        row("slow", c.slow),
+        row("orders", 0),
+        row("refused", plan.refused.len() as u64),
     ]
 }
 
@@ -105,38 +51,14 @@ fn skip_rows(skipped: &[(u32, SkipReason)]) -> [Row; 8]
     ensures { map row_view result ≡ report.skip_rows skipped.now }
 {
     [
-        Row {
-            name: "skip TooLong",
-            count: skips::too_long(skipped) as u64,
-        },
-        Row {
-            name: "skip Short",
-            count: skips::short(skipped) as u64,
-        },
-        Row {
-            name: "skip NotIp4",
-            count: skips::not_ip4(skipped) as u64,
-        },
-        Row {
-            name: "skip Cut",
-            count: skips::cut(skipped) as u64,
-        },
-        Row {
-            name: "skip BadIp4",
-            count: skips::bad_ip4(skipped) as u64,
-        },
-        Row {
-            name: "skip ShortPorts",
-            count: skips::short_ports(skipped) as u64,
-        },
-        Row {
-            name: "skip NoSource",
-            count: skips::no_source(skipped) as u64,
-        },
-        Row {
-            name: "skip PausedSource",
-            count: skips::paused_source(skipped) as u64,
-        },
+        row("skip TooLong", skips::too_long(skipped) as u64),
+        row("skip Short", skips::short(skipped) as u64),
+        row("skip NotIp4", skips::not_ip4(skipped) as u64),
+        row("skip Cut", skips::cut(skipped) as u64),
+        row("skip BadIp4", skips::bad_ip4(skipped) as u64),
+        row("skip ShortPorts", skips::short_ports(skipped) as u64),
+        row("skip NoSource", skips::no_source(skipped) as u64),
+        row("skip PausedSource", skips::paused_source(skipped) as u64),
     ]
 }
 
@@ -148,18 +70,9 @@ fn drop_rows(fates: &[Fate], c: Counts) -> [Row; 3]
 {
     let _fates = fates;
     [
-        Row {
-            name: "drop spoofed",
-            count: c.spoofed,
-        },
-        Row {
-            name: "drop novm",
-            count: c.novm,
-        },
-        Row {
-            name: "drop noowner",
-            count: c.noowner,
-        },
+        row("drop spoofed", c.spoofed),
+        row("drop novm", c.novm),
+        row("drop noowner", c.noowner),
     ]
 }
 

@@ -13,6 +13,13 @@ pub(crate) struct Row {
     pub(crate) count: u64,
 }
 
+/// The row of this name and count.
+pub(crate) fn row(name: &'static str, count: u64) -> Row
+    ensures { row_view result ≡ report.row name.now count }
+{
+    Row { name, count }
+}
+
 /// Puts the bytes at the end of the text.
 pub(crate) fn put(text: &mut Vec<u8>, bytes: &[u8]) -> Result<(), NoMemory>
     ensures { OnOk result (text.new.items ≡ text.old.items ++ bytes.now) }

@@ -1,7 +1,10 @@
 //! The program's rows: words, statuses, lines and reports.
 
 use crate::andromeda;
+use crate::fate::Fate;
+use crate::policy::Policy;
 use and_outside::{MemoryFiles, MemorySink};
+use and_policy::{Entry, Exit, Landing, Name, Prefix, Rule, Side, Tuple, plain};
 use std::alloc::{AllocError, Global};
 use std::test::Fail;
 
@@ -157,5 +160,129 @@ fn faults(rt: HostRuntime) -> Result<(), Fail> {
     assert_eq!(rt; put.status, 5);
     assert_eq!(rt; put.err.bytes(), b"write failed: output\n".as_slice());
     assert_eq!(rt; put.out.bytes(), b"".as_slice());
+    Ok(())
+}
+
+/// The next number of a small generator (a linear congruence), and what it gives below `n`; 0 where
+/// `n` is 0.
+fn draw(state: &mut u64, n: u64) -> u64 {
+    *state = state
+        .wrapping_mul(6364136223846793005)
+        .wrapping_add(1442695040888963407);
+    (*state >> 33).checked_rem(n).unwrap_or(0)
+}
+
+/// Some entry of two networks, four VMs and a few rules.
+fn some_entry(state: &mut u64) -> Entry {
+    let net = 1 + (draw(state, 2) % 2) as u32;
+    let small = (draw(state, 4) % 4) as u32;
+    let kind = draw(state, 5);
+    if kind == 0 {
+        return Entry::AddNet { net };
+    }
+    if kind < 3 {
+        return Entry::AddVm {
+            vm: small,
+            net,
+            mac: 1,
+            ip: (draw(state, 3) % 3) as u32,
+            host: 0,
+        };
+    }
+    let everywhere = Prefix {
+        address: 0,
+        length: 0,
+    };
+    let side = if draw(state, 2) == 0 {
+        Side::Egress
+    } else {
+        Side::Ingress
+    };
+    let protocol = if draw(state, 2) == 0 { None } else { Some(6) };
+    let low = if draw(state, 2) == 0 { 0 } else { 80 };
+    Entry::AddRule {
+        net,
+        rule: Rule {
+            number: small,
+            priority: (draw(state, 2) % 2) as u16,
+            side,
+            allow: draw(state, 2) == 0,
+            sealed: false,
+            protocol,
+            source: everywhere,
+            destination: everywhere,
+            source_low: 0,
+            source_high: 65535,
+            destination_low: low,
+            destination_high: 90,
+        },
+    }
+}
+
+fn some_tuple(state: &mut u64) -> Tuple {
+    Tuple {
+        protocol: if draw(state, 2) == 0 { 6 } else { 17 },
+        source: (draw(state, 3) % 3) as u32,
+        destination: (draw(state, 3) % 3) as u32,
+        source_port: 1,
+        destination_port: if draw(state, 2) == 0 { 70 } else { 85 },
+    }
+}
+
+/// The network of the first entry that adds the VM; 0 where there is none.
+fn net_of(log: &[Entry], vm: u32) -> u32 {
+    for entry in log {
+        if let Entry::AddVm { vm: v, net, .. } = *entry {
+            if v == vm {
+                return net;
+            }
+        }
+    }
+    0
+}
+
+/// The fate by the plain program of the policy, which goes through all entries.
+fn plain_fate(log: &[Entry], vm: u32, tuple: &Tuple) -> Fate {
+    let net = net_of(log, vm);
+    match plain::egress(log, vm, tuple) {
+        Exit::NoVm => Fate::NoVm,
+        Exit::Spoofed => Fate::Spoofed,
+        Exit::Denied { number } => Fate::EgressDenied { net, number },
+        Exit::Allowed { .. } => match plain::landing(log, net, tuple) {
+            Landing::NoOwner => Fate::NoOwner,
+            Landing::Owned { vm, pass: true, .. } => Fate::Delivered { vm },
+            Landing::Owned {
+                by: Name::Rule(number),
+                ..
+            } => Fate::IngressDenied { net, number },
+            Landing::Owned {
+                by: Name::Implied,
+                ..
+            } => Fate::IngressDenied { net, number: 0 },
+        },
+    }
+}
+
+/// The tables give the fates of the plain program, over three hundred small logs and eight packets each.
+#[test]
+fn generated(rt: HostRuntime) -> Result<(), Fail> {
+    let mut state = 1u64;
+    for _ in 0..300 {
+        let mut policy = Policy::new(rt.alloc());
+        let mut log = Vec::new(rt.alloc());
+        for _ in 0..12 {
+            let entry = some_entry(&mut state);
+            if let Entry::AddNet { .. } | Entry::AddVm { .. } | Entry::AddRule { .. } = entry {
+                policy.append(rt.alloc(), entry)?;
+                log.push(entry)?;
+            }
+        }
+        for _ in 0..8 {
+            let tuple = some_tuple(&mut state);
+            let vm = (draw(&mut state, 4) % 4) as u32;
+            let same = policy.fate(vm, &tuple) == plain_fate(&log, vm, &tuple);
+            assert!(rt; same);
+        }
+    }
     Ok(())
 }

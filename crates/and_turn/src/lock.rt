@@ -81,7 +81,7 @@ impl<S: Tale> TurnLock<S> {
         self.draw(seat);
         for _ in rt.forever() {
             if self.look(seat) {
-                let value = self.out(seat);
+                let value = self.lift(seat);
                 self.learn(seat);
                 return value;
             }

@@ -26,11 +26,11 @@ impl<S: Tale> TurnLock<S> {
         self.table.shared.load::<Look<S>>(&mut seat.place, 2) == seat.ticket
     }
 
-    // The value, which the seat has in hand. None stays in its place.
-    pub(crate) fn out(&self, seat: &mut Seat<S>) -> S
+    // Lifts out the value, which the seat has in hand then. None stays in its place.
+    pub(crate) fn lift(&self, seat: &mut Seat<S>) -> S
         requires { SitsAt self.now seat.old × ((x : S) × Holds seat.old (Some x)) }
         ensures same { SitsAt self.now seat.new × (known_of seat.new ≡ known_of seat.old) × (list_of seat.new ≡ list_of seat.old) }
-        ensures out { (hands_of seat.old ≡ (0, Some result) ∷ []) × Holds seat.new None }
+        ensures lifted { (hands_of seat.old ≡ (0, Some result) ∷ []) × Holds seat.new None }
     {
         self.table
             .shared

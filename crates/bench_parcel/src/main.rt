@@ -1,4 +1,6 @@
-//! Wraps a frame of 1,400 bytes and reads it back, ten million times.
+//! A program to time parcels by: it wraps a frame of 1,400 bytes and reads it back, ROUNDS times, and writes a sum over what was read.
+//!
+//! It promises nothing of the sum, which the stored run and the C beside it in `bench/parcel` compare. It stands on `and_parcel`.
 #![tactic(auto)]
 
 ghost use Rattle.std.specs.Prelude.{◌<◌, ◌^◌};
@@ -6,7 +8,10 @@ ghost use Rattle.std.specs.Prelude.{◌<◌, ◌^◌};
 use and_parcel::{Outer, Parcel, entropy_port};
 use and_policy::{host_address, route_address};
 use and_wire::read_frame;
-use std::io;
+use std::process::ExitCode;
+use std::{env, io};
+
+const USAGE: &str = "usage: bench_parcel ROUNDS";
 
 /// An Ethernet and an IPv4 header: UDP from 10.0.0.1 to 10.0.0.2, 1,386 bytes.
 const HEADER: [u8; 34] = [
@@ -36,19 +41,38 @@ fn there_and_back(parcel: &mut Parcel, vni: u32, sum: u32) -> u32
     }
 }
 
-fn main(rt: HostRuntime) -> io::Result<()> {
+/// So many rounds over one parcel, with another network and TTL in each.
+fn rounds(parcel: &mut Parcel, count: u32) -> u32 {
+    let mut sum: u32 = 0;
+    for round in 0..count {
+        sum = there_and_back(parcel, round % 16_777_216, sum);
+    }
+    sum
+}
+
+/// The number of the command line, after the program's name.
+fn number(words: &[String]) -> Option<u32> {
+    match words {
+        [_, count] => count.parse().ok(),
+        _ => None,
+    }
+}
+
+fn main(rt: HostRuntime) -> io::Result<ExitCode> {
+    let words: Vec<String> = env::args(&rt)?.collect(rt.alloc())?;
+    let Some(count) = number(words.as_slice()) else {
+        println!(rt; "{USAGE}")?;
+        return Ok(ExitCode::from(1));
+    };
     let mut frame = HEADER.to_vec(rt.alloc())?;
     frame.resize(1400, 0)?;
     if read_frame(&frame).is_err() {
-        return Ok(());
+        return Ok(ExitCode::from(1));
     }
     let Ok(mut parcel) = Parcel::make(rt.alloc(), &frame, 0, 1) else {
-        return Ok(());
+        return Ok(ExitCode::from(6));
     };
-    let mut sum: u32 = 0;
-    for vni in 0..10_000_000 {
-        sum = there_and_back(&mut parcel, vni, sum);
-    }
+    let sum = rounds(&mut parcel, count);
     println!(rt; "{sum}")?;
-    Ok(())
+    Ok(ExitCode::from(0))
 }

@@ -1,0 +1,13 @@
+//! The trace: one line of words for each event of a run, oldest first, under a first line that names the format.
+//!
+//! It promises that `print_trace` writes the text that the definition `trace` gives, and that two different
+//! histories whose events have a spelling never have the same trace. It stands on `and_events` and `itoa`.
+#![tactic(auto)]
+
+mod printing;
+mod put;
+#[cfg(test)]
+mod tests;
+mod word;
+
+pub use printing::print_trace;

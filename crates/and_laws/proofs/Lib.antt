@@ -1,0 +1,11 @@
+pub mod Places
+pub mod Sizes
+pub mod Moves
+pub mod LegalMoves
+pub mod Fates
+pub mod Steps
+pub mod Injected
+pub mod Complete
+pub mod Capacity
+pub mod Hops
+pub mod Losses

@@ -1,0 +1,4 @@
+pub mod Sizes
+pub mod Fates
+pub mod Scripted
+pub mod Limits

@@ -9,3 +9,11 @@ pub mod Complete
 pub mod Capacity
 pub mod Hops
 pub mod Losses
+pub mod Leaving
+pub mod Work
+pub mod Hairpins
+pub mod Programmed
+pub mod Paying
+pub mod Ends
+pub mod Actors
+pub mod Needs

@@ -2,3 +2,4 @@ pub mod Sizes
 pub mod Fates
 pub mod Scripted
 pub mod Limits
+pub mod Bound

@@ -17,7 +17,7 @@ use Rattle.and_events.specs.Legal.{Legal}
 use Rattle.and_events.specs.Run.{Run}
 use Rattle.and_laws.specs.Bound.{bound}
 use Rattle.and_laws.proofs.Sizes.{nodes}
-use Rattle.and_laws.proofs.Programmed.{programmed, programme_in}
+use Rattle.and_laws.proofs.Short.{programmed, programme_in}
 use Rattle.and_laws.proofs.Paying.{next_within, paid}
 
 -- what is announced and what is installed is in the programme

@@ -10,6 +10,7 @@ pub mod Capacity
 pub mod Hops
 pub mod Losses
 pub mod Leaving
+pub mod Short
 pub mod Work
 pub mod Hairpins
 pub mod Programmed
@@ -17,3 +18,9 @@ pub mod Paying
 pub mod Ends
 pub mod Actors
 pub mod Needs
+pub mod Lives
+pub mod Moving
+pub mod Rows
+pub mod PortMoves
+pub mod PortFits
+pub mod StepFacts

@@ -37,7 +37,7 @@ use Rattle.and_laws.proofs.Fates.{nothing_at_start}
 use Rattle.and_laws.proofs.Leaving.{orderly}
 use Rattle.and_laws.proofs.Work.{work_left, brings, costs, work_after}
 use Rattle.and_laws.proofs.Hairpins.{hairpins, pins, pin, made, taken, IsTaken, hairpins_after}
-use Rattle.and_laws.proofs.Programmed.{programmed, nothing_leaves}
+use Rattle.and_laws.proofs.Short.{programmed, nothing_leaves}
 
 -- ---- the steps done are steps of the plan
 

@@ -3,3 +3,5 @@ pub mod Fates
 pub mod Scripted
 pub mod Limits
 pub mod Bound
+pub mod Programmed
+pub mod LivePorts

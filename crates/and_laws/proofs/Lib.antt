@@ -24,3 +24,11 @@ pub mod Rows
 pub mod PortMoves
 pub mod PortFits
 pub mod StepFacts
+pub mod Unique
+pub mod Queues
+pub mod Stages
+pub mod StageMoves
+pub mod Trails
+pub mod Staged
+pub mod Justified
+pub mod Orderless

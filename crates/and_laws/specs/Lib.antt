@@ -5,3 +5,4 @@ pub mod Limits
 pub mod Bound
 pub mod Programmed
 pub mod LivePorts
+pub mod Offloads

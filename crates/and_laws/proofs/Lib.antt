@@ -15,7 +15,7 @@ pub mod Work
 pub mod Hairpins
 pub mod Programmed
 pub mod Paying
-pub mod Ends
+pub mod Bounded
 pub mod Actors
 pub mod Needs
 pub mod Lives
@@ -32,3 +32,6 @@ pub mod Trails
 pub mod Staged
 pub mod Justified
 pub mod Orderless
+pub mod PortSteps
+pub mod Following
+pub mod AllDone

@@ -6,3 +6,4 @@ pub mod Bound
 pub mod Programmed
 pub mod LivePorts
 pub mod Offloads
+pub mod Ends

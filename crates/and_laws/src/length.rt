@@ -7,7 +7,7 @@ ghost use Rattle.and_laws.specs.Bound.{bound, HasShortProgrammes};
 
 /// No run of a plan has more events than the plan's bound: five for a step, two for each operation of a node's programme, and
 /// two for a hop of a packet. So every run ends.
-#[tactic(auto, using(crate::proofs::Ends::run_ends))]
+#[tactic(auto, using(crate::proofs::Bounded::run_ends))]
 pub fn runs_are_bounded()
     ensures { (plan : Plan) (h : List Event) → Run plan h → length h ≤ bound plan }
 {}

@@ -2,10 +2,9 @@
 ghost use Rattle.std.specs.Prelude.{List};
 ghost use Rattle.and_events.specs.declared.event.Event.{Event};
 ghost use Rattle.and_events.specs.declared.plan.Plan.{Plan};
-ghost use Rattle.and_events.specs.Complete.{IsComplete};
 ghost use Rattle.and_events.specs.Run.{Run};
 ghost use Rattle.and_events.specs.Sound.{IsSound};
-ghost use Rattle.and_laws.specs.Fates.{HasFatesAndPlaces, HasOneFate, HasOneFateOrPlace, IsAccounted, IsInjectedOnce};
+ghost use Rattle.and_laws.specs.Fates.{HasFatesAndPlaces, HasOneFateOrPlace, IsAccounted, IsInjectedOnce};
 
 /// Each packet of a run has together as many fates and places as it was injected. In a run of a sound plan that is one for
 /// each packet that was injected, and none is injected twice.
@@ -21,10 +20,4 @@ pub fn one_fate_or_place()
 #[tactic(auto, using(crate::proofs::Fates::accounted))]
 pub fn all_accounted()
     ensures { (plan : Plan) (h : List Event) → Run plan h → IsAccounted plan h }
-{}
-
-/// A complete run gives each packet of its plan exactly one fate.
-#[tactic(auto, using(crate::proofs::Complete::one_fate))]
-pub fn one_fate_at_the_end()
-    ensures { (plan : Plan) (h : List Event) → IsSound plan → Run plan h → IsComplete plan h → HasOneFate plan h }
 {}

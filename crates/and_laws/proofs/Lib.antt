@@ -31,7 +31,10 @@ pub mod StageMoves
 pub mod Trails
 pub mod Staged
 pub mod Justified
-pub mod Orderless
 pub mod PortSteps
 pub mod Following
 pub mod AllDone
+pub mod Apart
+pub mod LiveOrders
+pub mod Numbers
+pub mod Offloading

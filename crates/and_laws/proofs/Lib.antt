@@ -38,3 +38,6 @@ pub mod Apart
 pub mod LiveOrders
 pub mod Numbers
 pub mod Offloading
+pub mod Hosted
+pub mod Leads
+pub mod PinnedTo

@@ -135,12 +135,12 @@ place_is_there s (Host h) is = omega arith
 place_is_there s (Gate g) is = omega arith
 
 -- the entries of a prefix come first in the plan's log
-record Begins (plan : Plan) (k : List Entry) : Type 0 where
+pub record Begins (plan : Plan) (k : List Entry) : Type 0 where
   pub rest : List Entry
   pub whole : k ++ rest ≡ plan.log
   pub distinct : AreDistinct plan.log
 
-begins : (plan : Plan) (h : List Event) (node : Node) (j : ℕ) → IsSound plan → Run plan h → IsNode plan.settings node → Begins plan (prefix (programme_of plan (state plan h) node) j)
+pub begins : (plan : Plan) (h : List Event) (node : Node) (j : ℕ) → IsSound plan → Run plan h → IsNode plan.settings node → Begins plan (prefix (programme_of plan (state plan h) node) j)
 begins plan h node j sound r is_node =
     let p = programme_of plan (state plan h) node in
     let is = programme_is plan h (node_place plan.settings node) (place_is_there plan.settings node is_node) in
@@ -183,20 +183,20 @@ net_found t (AddVm w n mac ip host ∷ k) vm x knows f =
     (found_among q (list_any (removes w) k) (q v) (vms k) v x refl f)
 net_found t (_ ∷ k) vm x knows f = net_found t k vm x knows f
 
-dest_of : (x : Exit) (d dest : Dest) (by : Name) (sealed : Bool) → leaving_by x d ≡ leavings.Allowed by sealed dest → d ≡ dest
+pub dest_of : (x : Exit) (d dest : Dest) (by : Name) (sealed : Bool) → leaving_by x d ≡ leavings.Allowed by sealed dest → d ≡ dest
 dest_of exits.NoVm d dest by sealed e = cc
 dest_of exits.Spoofed d dest by sealed e = cc
 dest_of (exits.Denied m) d dest by sealed e = cc
 dest_of (exits.Allowed b s) d dest by sealed e = cc
 
 -- an offload has an order behind it
-record ByOrder (o : Option Order) (host net : ℕ) : Type 0 where
+pub record ByOrder (o : Option Order) (host net : ℕ) : Type 0 where
   pub order : Order
   pub is : o ≡ Some order
   pub host_is : order.to_host ≡ host
   pub net_is : order.to_net ≡ net
 
-by_order : (gateways : ℕ) (x : Tuple) (o : Option Order) (host net : ℕ) → dest_by gateways x o ≡ Offload host net → ByOrder o host net
+pub by_order : (gateways : ℕ) (x : Tuple) (o : Option Order) (host net : ℕ) → dest_by gateways x o ≡ Offload host net → ByOrder o host net
 by_order gateways x None host net e = absurd (let no_way : Hover _ ≡ Offload host net = e in cc)
 by_order gateways x (Some order) host net e = record { order = order; is = refl; host_is = cc; net_is = cc }
 
@@ -205,7 +205,7 @@ leaver : (k : List Entry) (x : Tuple) (o : Option Vm) (by : Name) (sealed : Bool
 leaver k x None by sealed e = absurd (let no_way : exits.NoVm ≡ exits.Allowed by sealed = e in cc)
 leaver k x (Some v) by sealed e = (v, refl)
 
-worker_node : (s : Settings) (a : Actor) → IsActor s a → IsWorker a → IsNode s (node_of a)
+pub worker_node : (s : Settings) (a : Actor) → IsActor s a → IsWorker a → IsNode s (node_of a)
 worker_node s (Worker h w) is t = is.0
 worker_node s (HostInstall h) is t = absurd t
 worker_node s (GateInstall g) is t = absurd t

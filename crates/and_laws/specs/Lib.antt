@@ -7,3 +7,4 @@ pub mod Programmed
 pub mod LivePorts
 pub mod Offloads
 pub mod Ends
+pub mod Targets

@@ -1,1 +1,7 @@
 mod Printed
+mod Cutting
+mod Reading
+mod ReadBack
+mod Lines
+mod Events
+pub mod Names

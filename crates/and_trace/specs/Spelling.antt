@@ -1,5 +1,5 @@
 -- The trace of a history: a line of words for each event.
-use Rattle.std.specs.Prelude.{ℕ, Bool, true, false, List, [], ◌∷◌, ◌++◌, codes}
+use Rattle.std.specs.Prelude.{ℕ, ◌<◌, ◌^◌, Bool, true, false, List, [], ◌∷◌, ◌++◌, codes}
 use Rattle.std.specs.List.{flat_map}
 use Rattle.and_policy.specs.declared.decision.Name.{Name}
 use Rattle.and_policy.specs.declared.decision.Name.TheVariants as names
@@ -10,7 +10,7 @@ use Rattle.and_policy.specs.declared.decision.Dest.TheVariants.{Offload, Hover}
 use Rattle.and_events.specs.declared.event.Node.{Node}
 use Rattle.and_events.specs.declared.event.Node.TheVariants.{Host, Gate}
 use Rattle.and_events.specs.declared.event.Actor.{Actor}
-use Rattle.and_events.specs.declared.event.Actor.TheVariants.{HostInstall, GateInstall, Worker, Coproc, Gateway, Controller, Driver}
+use Rattle.and_events.specs.declared.event.Actor.TheVariants.{Worker, Coproc, Gateway}
 use Rattle.and_events.specs.declared.event.Queue.{Queue}
 use Rattle.and_events.specs.declared.event.Queue.TheVariants.{Out, Wire, Seal}
 use Rattle.and_events.specs.declared.event.End.{End}
@@ -173,7 +173,7 @@ TakesPackets (Gateway g) = Unit {0}
 TakesPackets _ = ⊥
 
 -- an event's actor, if it names one, is a worker, a coprocessor or a gateway's worker
-unfoldable pub HasSpelling : Event → Type 0
+abbrev pub HasSpelling : Event → Type 0
 HasSpelling (events.Take a q i) = TakesPackets a
 HasSpelling (events.Egress a i at way d) = TakesPackets a
 HasSpelling (events.Sealed a i end) = TakesPackets a
@@ -181,3 +181,22 @@ HasSpelling (events.Route a i at p) = TakesPackets a
 HasSpelling (events.Redirect a i at back) = TakesPackets a
 HasSpelling (events.Ingress a i at way arrival) = TakesPackets a
 HasSpelling _ = Unit {0}
+
+-- numbers of at most 64 bits; those of an event have 32
+abbrev pub FitsWord : Word → Type 0
+FitsWord (Text k) = Unit {0}
+FitsWord (Number n) = n < 2 ^ 64
+FitsWord (AtHost host) = host < 2 ^ 64
+FitsWord (AtGate gate) = gate < 2 ^ 64
+FitsWord (HostWorker host index) = (host < 2 ^ 64) × (index < 2 ^ 64)
+FitsWord (HostCoproc host) = host < 2 ^ 64
+FitsWord (GateWorker gate) = gate < 2 ^ 64
+
+abbrev pub FitWords : List Word → Type 0
+FitWords [] = Unit {0}
+FitWords (w ∷ ws) = FitsWord w × FitWords ws
+
+-- every event of the history has a spelling
+unfoldable pub IsSpelled : List Event → Type 0
+IsSpelled [] = Unit {0}
+IsSpelled (e ∷ h) = IsSpelled h × HasSpelling e × FitWords (rest_of e)

@@ -4,10 +4,12 @@
 //! histories whose events have a spelling never have the same trace. It stands on `and_events` and `itoa`.
 #![tactic(auto)]
 
+mod laws;
 mod printing;
 mod put;
 #[cfg(test)]
 mod tests;
 mod word;
 
+pub use laws::trace_names_one_history;
 pub use printing::print_trace;

@@ -1,0 +1,10 @@
+//! What a trace says of the history that it was written for.
+ghost use Rattle.std.specs.Prelude.{◌≡◌, List};
+ghost use Rattle.and_events.specs.declared.event.Event.{Event};
+ghost use Rattle.and_trace.specs.Spelling.{IsSpelled, trace};
+
+/// Two different histories whose events have a spelling never have the same trace.
+#[tactic(auto, using(crate::proofs::Names::names_one))]
+pub fn trace_names_one_history()
+    ensures { (g h : List Event) → IsSpelled g → IsSpelled h → trace g ≡ trace h → g ≡ h }
+{}

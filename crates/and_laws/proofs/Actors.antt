@@ -12,13 +12,7 @@ use Rattle.and_events.specs.declared.plan.Plan.{Plan}
 use Rattle.and_events.specs.Places.{node_count, hand_place, actor_number, node_of, IsActor, IsNode, HasQueue, IsWorker, IsGatewayWorker, IsCoprocessor}
 use Rattle.and_events.specs.State.{State}
 use Rattle.and_events.specs.Legal.{TakesFrom}
-
--- the actor takes packets
-abbrev pub Takes : Actor → Type 0
-Takes (Worker h w) = Unit {0}
-Takes (Coproc h) = Unit {0}
-Takes (Gateway g) = Unit {0}
-Takes _ = ⊥
+use Rattle.and_laws.specs.Stages.{Takes, MayTake}
 
 pub takes_worker : (a : Actor) → IsWorker a → Takes a
 takes_worker (Worker h w) is = tt
@@ -101,3 +95,52 @@ same_node s a (HostInstall h) is is' t t' e = absurd t'
 same_node s a (GateInstall g) is is' t t' e = absurd t'
 same_node s a Controller is is' t t' e = absurd t'
 same_node s a Driver is is' t t' e = absurd t'
+
+-- ---- which queues
+
+pub may_take : (plan : Plan) (s : State) (a : Actor) (q : Queue) → TakesFrom plan s a q → MayTake a q
+may_take plan s (Worker h w) Out from = tt
+may_take plan s (Worker h w) Wire from = tt
+may_take plan s (Worker h w) Seal from = absurd from
+may_take plan s (Coproc h) Seal from = tt
+may_take plan s (Coproc h) Out from = absurd from
+may_take plan s (Coproc h) Wire from = absurd from
+may_take plan s (Gateway g) Wire from = tt
+may_take plan s (Gateway g) Out from = absurd from
+may_take plan s (Gateway g) Seal from = absurd from
+may_take plan s (HostInstall h) q from = absurd from
+may_take plan s (GateInstall g) q from = absurd from
+may_take plan s Controller q from = absurd from
+may_take plan s Driver q from = absurd from
+
+-- two actors with one hand take from the same queues
+pub same_kind : (s : Settings) (a b : Actor) (q : Queue) → IsActor s a → IsActor s b → Takes a → Takes b → hand_place s a ≡ hand_place s b → MayTake a q → MayTake b q
+same_kind s (Worker h w) (Worker h' w') Out is is' t t' e may = tt
+same_kind s (Worker h w) (Worker h' w') Wire is is' t t' e may = tt
+same_kind s (Worker h w) (Worker h' w') Seal is is' t t' e may = absurd may
+same_kind s (Worker h w) (Coproc h') q is is' t t' e may = absurd (omega (arith, mul-add-lt h s.workers w s.hosts is.0 is.1, e))
+same_kind s (Worker h w) (Gateway g) q is is' t t' e may = absurd (omega (arith, mul-add-lt h s.workers w s.hosts is.0 is.1, e))
+same_kind s (Coproc h) (Worker h' w') q is is' t t' e may = absurd (omega (arith, mul-add-lt h' s.workers w' s.hosts is'.0 is'.1, e))
+same_kind s (Coproc h) (Coproc h') q is is' t t' e may = kept q may
+  where
+    kept : (q : Queue) → MayTake (Coproc h) q → MayTake (Coproc h') q
+    kept Seal may = tt
+    kept Out may = absurd may
+    kept Wire may = absurd may
+same_kind s (Coproc h) (Gateway g) q is is' t t' e may = absurd (omega (arith, is, e))
+same_kind s (Gateway g) (Worker h' w') q is is' t t' e may = absurd (omega (arith, mul-add-lt h' s.workers w' s.hosts is'.0 is'.1, e))
+same_kind s (Gateway g) (Coproc h') q is is' t t' e may = absurd (omega (arith, is', e))
+same_kind s (Gateway g) (Gateway g') q is is' t t' e may = kept q may
+  where
+    kept : (q : Queue) → MayTake (Gateway g) q → MayTake (Gateway g') q
+    kept Wire may = tt
+    kept Out may = absurd may
+    kept Seal may = absurd may
+same_kind s (HostInstall h) b q is is' t t' e may = absurd t
+same_kind s (GateInstall g) b q is is' t t' e may = absurd t
+same_kind s Controller b q is is' t t' e may = absurd t
+same_kind s Driver b q is is' t t' e may = absurd t
+same_kind s a (HostInstall h) q is is' t t' e may = absurd t'
+same_kind s a (GateInstall g) q is is' t t' e may = absurd t'
+same_kind s a Controller q is is' t t' e may = absurd t'
+same_kind s a Driver q is is' t t' e may = absurd t'

@@ -27,12 +27,11 @@ use Rattle.and_events.specs.Legal.{Legal, Sends, entries_at}
 use Rattle.and_events.specs.Run.{Run, fate_of, is_it}
 use Rattle.and_events.specs.Just.{address, IsSpent, LostAt, JustBy, Just}
 use Rattle.and_events.specs.Sound.{IsSound}
-use Rattle.and_laws.specs.Offloads.{HasRightOffloads}
+use Rattle.and_laws.specs.Stages.{Stages}
 use Rattle.and_laws.proofs.Sizes.{sizes}
 use Rattle.and_laws.proofs.Hops.{hops_left}
-use Rattle.and_laws.proofs.Offloading.{right_offloads}
 use Rattle.and_laws.proofs.Actors.{takes_worker, takes_gateway, takes_coprocessor}
-use Rattle.and_laws.proofs.Stages.{Stages, Holder}
+use Rattle.and_laws.proofs.Stages.{Holder}
 use Rattle.and_laws.proofs.Staged.{in_hand_of, holder, stages}
 use Rattle.and_laws.proofs.Trails.{no_vm_by, spoofed_by, denied_by, at_route, at_redirect, at_host}
 
@@ -118,11 +117,7 @@ just_by plan h (Redirect a j at b) i sound r st l fate = redirect_just plan h a 
 just_by plan h (Ingress a j at way v) i sound r st l fate = ingress_just plan h a j at r way v (holder plan h a j at Wire (takes_worker a l.1) l.0 sound r st) l
 just_by plan h e i sound r st l fate = tt
 
-just_so_far : (plan : Plan) (h : List Event) → IsSound plan → Run plan h → HasRightOffloads plan h → (i : ℕ) → Just plan h i
-unfolding Run HasRightOffloads Just
-just_so_far plan [] sound r o i = tt
-just_so_far plan (e ∷ h) sound r o i =
-    (just_so_far plan h sound r.0 o.0 i, just_by plan h e i sound r.0 (stages plan h sound r.0 o.0) r.1)
-
 pub just : (plan : Plan) (h : List Event) → IsSound plan → Run plan h → (i : ℕ) → Just plan h i
-just plan h sound r i = just_so_far plan h sound r (right_offloads plan h sound r) i
+unfolding Run Just
+just plan [] sound r i = tt
+just plan (e ∷ h) sound r i = (just plan h sound r.0 i, just_by plan h e i sound r.0 (stages plan h sound r.0) r.1)

@@ -41,3 +41,4 @@ pub mod Offloading
 pub mod Hosted
 pub mod Leads
 pub mod PinnedTo
+pub mod Hands

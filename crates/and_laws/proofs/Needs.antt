@@ -28,9 +28,10 @@ use Rattle.and_events.specs.State.{State, state, start, after, move_of, send, de
 use Rattle.and_events.specs.Legal.{Legal, CanTake, Decides}
 use Rattle.and_events.specs.Run.{Run}
 use Rattle.and_events.specs.Fresh.{installed_at_take, FreshAt, Fresh}
+use Rattle.and_laws.specs.Stages.{Takes}
 use Rattle.and_laws.specs.Sizes.{HasSizes}
 use Rattle.and_laws.proofs.Sizes.{sizes, hand_is_there}
-use Rattle.and_laws.proofs.Actors.{Takes, takes_worker, takes_gateway, takes_at, hand_number, same_node}
+use Rattle.and_laws.proofs.Actors.{takes_worker, takes_gateway, takes_at, hand_number, same_node}
 
 -- the move is no take
 abbrev pub NoGrab : Move → Type 0
@@ -83,7 +84,7 @@ given_up hands a p h e =
     let same = get_or-set_same hands a None None in
     grind (arith, common_steps, cases_eq p a, other, same, e)
 
-held_before : (f : Flow) (m : Move) (p : ℕ) (h : Held) → NoGrab m → hand_at (flow_after f m).hands p ≡ Some h → hand_at f.hands p ≡ Some h
+pub held_before : (f : Flow) (m : Move) (p : ℕ) (h : Held) → NoGrab m → hand_at (flow_after f m).hands p ≡ Some h → hand_at f.hands p ≡ Some h
 unfolding flow_after
 held_before f Stay p h n e = e
 held_before f (Enter q i) p h n e = e

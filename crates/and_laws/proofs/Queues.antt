@@ -11,7 +11,7 @@ use Rattle.and_events.specs.declared.event.Queue.TheVariants.{Out, Wire, Seal}
 use Rattle.and_events.specs.declared.plan.Settings.{Settings}
 use Rattle.and_events.specs.Places.{queue_place, queue_count, IsNode, HasQueue}
 use Rattle.and_events.specs.Flow.{queue_at, pushed, popped}
-use Rattle.and_laws.proofs.Unique.{count_in}
+use Rattle.and_laws.specs.Stages.{count_in}
 
 dropped_in : (xs : List ℕ) (i : ℕ) → 0 < count_in i (drop 1 xs) → 0 < count_in i xs
 dropped_in [] i h = h

@@ -18,12 +18,13 @@ use Rattle.and_events.specs.State.{state, after, move_of, carried_at, home}
 use Rattle.and_events.specs.Legal.{Legal, CanTake}
 use Rattle.and_events.specs.Run.{injections, injected_by}
 use Rattle.and_events.specs.Just.{egresses, passages_of}
+use Rattle.and_laws.specs.Stages.{count_in, IsUndecided, StageOf, StageAt, Stages}
 use Rattle.and_laws.proofs.Sizes.{sizes}
 use Rattle.and_laws.proofs.Actors.{takes_at, same_node}
-use Rattle.and_laws.proofs.Unique.{count_in, in_no_queue, in_no_other}
+use Rattle.and_laws.proofs.Unique.{in_no_queue, in_no_other}
 use Rattle.and_laws.proofs.Queues.{pushed_in, popped_in, front_counts, queue_within, same_queue}
 use Rattle.and_laws.proofs.Needs.{given_up, taken_same, taken_other, take_within}
-use Rattle.and_laws.proofs.Stages.{IsUndecided, StageOf, StageAt, Stages, IsAside, About, undecided_kept, stage_same, Holder}
+use Rattle.and_laws.proofs.Stages.{IsAside, About, undecided_kept, stage_same, Holder}
 
 -- ---- an actor lets go what it has in hand
 

@@ -30,16 +30,18 @@ use Rattle.and_events.specs.Legal.{Legal, Decides, Sends}
 use Rattle.and_events.specs.Run.{Run, injections, injected_by}
 use Rattle.and_events.specs.Just.{egresses, passages_of}
 use Rattle.and_events.specs.Sound.{IsSound}
+use Rattle.and_laws.specs.Stages.{Takes, count_in, LedAs, Stages}
 use Rattle.and_laws.specs.Offloads.{HasRightOffloads, LeadsRight}
+use Rattle.and_laws.proofs.Offloading.{right_offloads}
 use Rattle.and_laws.proofs.Sizes.{sizes}
 use Rattle.and_laws.proofs.Fates.{each_has_one}
 use Rattle.and_laws.proofs.Injected.{injected_once}
 use Rattle.and_laws.proofs.Losses.{held_is_known}
-use Rattle.and_laws.proofs.Actors.{Takes, takes_worker, takes_gateway, takes_coprocessor}
-use Rattle.and_laws.proofs.Unique.{count_in, hand_counts}
+use Rattle.and_laws.proofs.Actors.{takes_worker, takes_gateway, takes_coprocessor}
+use Rattle.and_laws.proofs.Unique.{hand_counts}
 use Rattle.and_laws.proofs.Queues.{wire_there}
 use Rattle.and_laws.proofs.Needs.{nothing_held}
-use Rattle.and_laws.proofs.Stages.{LedAs, Stages, IsAside, About, led_kept, led_as_kept, stage_same, undecided_kept, Holder}
+use Rattle.and_laws.proofs.Stages.{IsAside, About, led_kept, led_as_kept, stage_same, undecided_kept, Holder}
 use Rattle.and_laws.proofs.StageMoves.{stages_stop, stages_push, stages_take, stages_inject}
 use Rattle.and_laws.proofs.Trails.{about_egress, about_route, about_sealed, about_redirect, about_ingress, sealed_aside, redirect_aside, ingress_aside, egress_led, route_led, at_route, at_redirect, at_host}
 
@@ -213,25 +215,28 @@ first_time : (plan : Plan) (h : List Event) (step j : ℕ) (full : Bool) → IsS
 unfolding injections injected_by
 first_time plan h step j full sound r = let once = (injected_once plan (Inject step j full ∷ h) sound r).once j in grind (arith, common_steps, once)
 
-pub stages : (plan : Plan) (h : List Event) → IsSound plan → Run plan h → HasRightOffloads plan h → Stages plan h
+stages_so_far : (plan : Plan) (h : List Event) → IsSound plan → Run plan h → HasRightOffloads plan h → Stages plan h
 unfolding Run Legal HasRightOffloads
-stages plan [] sound r o = none_at_start plan
-stages plan (Inject step j full ∷ h) sound r o =
-    stages_inject plan h step j full r.1 (first_time plan h step j full sound r) (stages plan h sound r.0 o.0)
-stages plan (Take a q j ∷ h) sound r o = stages_take plan h a q j r.1 (stages plan h sound r.0 o.0)
-stages plan (Egress a i at way d ∷ h) sound r o =
-    let st = stages plan h sound r.0 o.0 in
+stages_so_far plan [] sound r o = none_at_start plan
+stages_so_far plan (Inject step j full ∷ h) sound r o =
+    stages_inject plan h step j full r.1 (first_time plan h step j full sound r) (stages_so_far plan h sound r.0 o.0)
+stages_so_far plan (Take a q j ∷ h) sound r o = stages_take plan h a q j r.1 (stages_so_far plan h sound r.0 o.0)
+stages_so_far plan (Egress a i at way d ∷ h) sound r o =
+    let st = stages_so_far plan h sound r.0 o.0 in
     egress_stages plan h a i at way (holder plan h a i at Out (takes_worker a r.1.1) r.1.0 sound r.0 st) st d o.1 r.1
-stages plan (Sealed a i end ∷ h) sound r o =
-    let st = stages plan h sound r.0 o.0 in
+stages_so_far plan (Sealed a i end ∷ h) sound r o =
+    let st = stages_so_far plan h sound r.0 o.0 in
     sealed_stages plan h a i end (in_hand_of plan h a i r.1.2.0 Seal r.1.0 (takes_coprocessor a r.1.1) r.1.2.1 sound r.0 st) st r.1
-stages plan (Route a i at p ∷ h) sound r o =
-    let st = stages plan h sound r.0 o.0 in
+stages_so_far plan (Route a i at p ∷ h) sound r o =
+    let st = stages_so_far plan h sound r.0 o.0 in
     route_stages plan h a i at (holder plan h a i at Wire (takes_gateway a r.1.1) r.1.0 sound r.0 st) st p r.1
-stages plan (Redirect a i at b ∷ h) sound r o =
-    let st = stages plan h sound r.0 o.0 in
+stages_so_far plan (Redirect a i at b ∷ h) sound r o =
+    let st = stages_so_far plan h sound r.0 o.0 in
     redirect_stages plan h a i at (holder plan h a i at Wire (takes_gateway a r.1.1) r.1.0 sound r.0 st) st b r.1
-stages plan (Ingress a i at way v ∷ h) sound r o =
-    let st = stages plan h sound r.0 o.0 in
+stages_so_far plan (Ingress a i at way v ∷ h) sound r o =
+    let st = stages_so_far plan h sound r.0 o.0 in
     ingress_stages plan h a i at (holder plan h a i at Wire (takes_worker a r.1.1) r.1.0 sound r.0 st) st way v r.1
-stages plan (e ∷ h) sound r o = quiet_stages plan h e tt (stages plan h sound r.0 o.0)
+stages_so_far plan (e ∷ h) sound r o = quiet_stages plan h e tt (stages_so_far plan h sound r.0 o.0)
+
+pub stages : (plan : Plan) (h : List Event) → IsSound plan → Run plan h → Stages plan h
+stages plan h sound r = stages_so_far plan h sound r (right_offloads plan h sound r)

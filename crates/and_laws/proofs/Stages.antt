@@ -1,5 +1,5 @@
--- Where a packet is says which decisions led it there.
-use Rattle.std.proofs.Common.{◌≡◌, ℕ, ◌<◌, ◌≤◌, List, [], ◌∷◌, length, sym, ◌∙◌, subst, Some, ⊎_elim, inl, inr}
+-- What an event leaves as it was of the decisions about a packet, and of where it is.
+use Rattle.std.proofs.Common.{◌≡◌, ℕ, ◌<◌, ◌≤◌, List, ◌∷◌, length, sym, ◌∙◌, subst, Some, ⊎_elim, inl, inr}
 use Rattle.and_policy.specs.declared.decision.Dest.{Dest}
 use Rattle.and_policy.specs.declared.decision.Dest.TheVariants.{Offload, Hover}
 use Rattle.and_events.specs.declared.event.Actor.{Actor}
@@ -12,47 +12,12 @@ use Rattle.and_events.specs.declared.event.Endpoint.TheVariants as endpoints
 use Rattle.and_events.specs.declared.event.Queue.{Queue}
 use Rattle.and_events.specs.declared.event.Queue.TheVariants.{Out, Wire, Seal}
 use Rattle.and_events.specs.declared.plan.Plan.{Plan}
-use Rattle.and_events.specs.Places.{queue_place, hand_place, node_of, IsActor, IsNode, HasQueue}
-use Rattle.and_events.specs.Flow.{queue_at, hand_at, placed}
-use Rattle.and_events.specs.State.{state, source_net, carried_at, node_at}
+use Rattle.and_events.specs.Places.{hand_place, node_of}
+use Rattle.and_events.specs.Flow.{hand_at, placed}
+use Rattle.and_events.specs.State.{state, carried_at}
 use Rattle.and_events.specs.Run.{injections}
 use Rattle.and_events.specs.Just.{egresses, passages_of, LeftBy, OffloadedTo, RoutedTo, LedTo}
-use Rattle.and_laws.proofs.Actors.{Takes}
-use Rattle.and_laws.proofs.Unique.{count_in}
-
--- no decision about the packet so far
-pub record IsUndecided (plan : Plan) (h : List Event) (i : ℕ) : Type 0 where
-  pub unleft : egresses plan h i ≡ []
-  pub unrouted : passages_of plan h i ≡ []
-
--- it left for a gateway, with its own network, and was not routed yet
-pub record IsForRoute (plan : Plan) (h : List Event) (i net : ℕ) : Type 0 where
-  pub own : net ≡ source_net plan i
-  pub gateway : ℕ
-  pub left : LeftBy plan h i (Hover gateway)
-  pub unrouted : passages_of plan h i ≡ []
-
--- what led to a send of the packet to this endpoint, with this network
-abbrev pub LedAs : Plan → List Event → ℕ → ℕ → Endpoint → Type 0
-LedAs plan h i net (endpoints.Route g) = IsForRoute plan h i net
-LedAs plan h i net (endpoints.Host host) = LedTo plan h i net
-LedAs plan h i net (endpoints.Redirect g) = LedTo plan h i net
-
--- what the decisions say of a packet in a queue of a node, or in hand from it
-abbrev pub StageOf : Plan → List Event → ℕ → Carried → Queue → Node → Type 0
-StageOf plan h i c Out node = IsUndecided plan h i
-StageOf plan h i c Wire node = LedAs plan h i c.net c.target × (node_at c.target ≡ node)
-StageOf plan h i c Seal node = LedAs plan h i c.net c.target
-
-abbrev pub StageAt : Plan → List Event → ℕ → Queue → Node → Type 0
-StageAt plan h i q node = StageOf plan h i (carried_at (state plan h) i) q node
-
-pub record Stages (plan : Plan) (h : List Event) : Type 0 where
-  pub queues : (i : ℕ) (q : Queue) (node : Node) → IsNode plan.settings node → HasQueue node q
-      → 0 < count_in i (queue_at (state plan h).flow.queues (queue_place plan.settings node q)) → StageAt plan h i q node
-  pub hands : (a : Actor) (g : Held) → IsActor plan.settings a → Takes a
-      → hand_at (state plan h).flow.hands (hand_place plan.settings a) ≡ Some g → StageAt plan h g.packet g.queue (node_of a)
-  pub unborn : (i : ℕ) → injections h i ≡ 0 → IsUndecided plan h i
+use Rattle.and_laws.specs.Stages.{IsUndecided, LedAs, StageOf, StageAt}
 
 -- ---- what an event does not change
 

@@ -33,8 +33,9 @@ use Rattle.and_events.specs.State.{state, source_net, packet_at, tuple_at, progr
 use Rattle.and_events.specs.Legal.{entries_at, IsRouteTarget, IsRedirectTarget}
 use Rattle.and_events.specs.Run.{injections, injected_by}
 use Rattle.and_events.specs.Just.{egresses, passages_of, address, LeftBy, LedTo}
+use Rattle.and_laws.specs.Stages.{IsUndecided, IsForRoute, LedAs}
 use Rattle.and_laws.specs.Offloads.{LeadsRight}
-use Rattle.and_laws.proofs.Stages.{IsUndecided, IsForRoute, LedAs, IsAside, About}
+use Rattle.and_laws.proofs.Stages.{IsAside, About}
 
 if_same : {A : Type 0} (i : ℕ) (x y : A) → (if i == i then x else y) ≡ x
 if_same i x y = grind (arith, common_steps)

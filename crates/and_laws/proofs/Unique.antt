@@ -1,14 +1,10 @@
 -- A packet that has at most one place, and is in hand, is nowhere else.
-use Rattle.std.proofs.Common.{◌≡◌, ℕ, ◌<◌, ◌≤◌, ◌==◌, List, [], length, set, arith, Option, Some, None}
-use Rattle.std.specs.List.{count_by}
+use Rattle.std.proofs.Common.{◌≡◌, ℕ, ◌<◌, ◌≤◌, List, [], length, set, arith, Option, Some, None}
 use Rattle.std.proofs.lemmas.List.Sums.{sum_by-set}
 use Rattle.and_events.specs.declared.event.Held.{Held}
 use Rattle.and_events.specs.Flow.{Flow, queue_at, hand_at, queued, in_hand, placed}
+use Rattle.and_laws.specs.Stages.{count_in}
 use Rattle.and_laws.proofs.Places.{hand_set, hand_within, hand_one}
-
--- how often the packet is in one queue
-abbrev pub count_in : ℕ → List ℕ → ℕ
-count_in i xs = count_by (λ x. x == i) xs
 
 count_within : (i q : ℕ) (queues : List (List ℕ)) → q < length queues → count_in i (queue_at queues q) ≤ queued i queues
 count_within i q queues h = omega (arith, sum_by-set (count_in i) queues q [] [] h)

@@ -8,3 +8,4 @@ pub mod LivePorts
 pub mod Offloads
 pub mod Ends
 pub mod Targets
+pub mod Stages

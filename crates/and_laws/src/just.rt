@@ -6,6 +6,7 @@ ghost use Rattle.and_events.specs.Just.{Just};
 ghost use Rattle.and_events.specs.Run.{Run};
 ghost use Rattle.and_events.specs.Sound.{IsSound};
 ghost use Rattle.and_laws.specs.Offloads.{HasRightOffloads, HasRightOrders};
+ghost use Rattle.and_laws.specs.Stages.{HaveRightHands, Stages};
 
 /// Each fate in a run of a sound plan has its reason, read off the history and the policy: why a packet was delivered, which
 /// word dropped it, or that it was lost in a blackout, at a full queue or at the hop limit.
@@ -20,4 +21,13 @@ pub fn fates_are_just()
 pub fn offloads_lead_right()
     ensures orders { (plan : Plan) (h : List Event) → IsSound plan → Run plan h → HasRightOrders plan h }
     ensures offloads { (plan : Plan) (h : List Event) → IsSound plan → Run plan h → HasRightOffloads plan h }
+{}
+
+/// Where a packet is says which decisions led it there: what waits in an `out` queue was not decided of; what waits for a node
+/// in its `wire` queue was sent to that node, and an Egress, and past the gateway the one Route, led it there; what waits to be
+/// sealed had its Egress. So of what actors have in hand, each from a queue of its kind.
+#[tactic(auto, using(crate::proofs::Staged::stages, crate::proofs::Hands::right_hands))]
+pub fn places_follow_decisions()
+    ensures stages { (plan : Plan) (h : List Event) → IsSound plan → Run plan h → Stages plan h }
+    ensures hands { (plan : Plan) (h : List Event) → Run plan h → HaveRightHands plan h }
 {}

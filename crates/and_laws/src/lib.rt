@@ -36,7 +36,7 @@ mod targets;
 
 pub use ends::{all_done_at_the_end, one_fate_at_the_end};
 pub use fresh::decisions_are_fresh;
-pub use just::{fates_are_just, offloads_lead_right};
+pub use just::{fates_are_just, offloads_lead_right, places_follow_decisions};
 pub use length::{programmes_are_short, runs_are_bounded};
 pub use limits::{hops_add_up, losses_are_due, queues_are_within_capacity};
 pub use packets::{all_accounted, one_fate_or_place};

@@ -11,7 +11,8 @@ abbrev pub bound : Plan → ℕ
 bound plan =
     5 * length plan.steps + 2 * (node_count plan.settings * length plan.steps) + 2 * (length plan.packets * plan.settings.hop_limit)
 
--- no programme has more operations, log entries and orders together, than steps were done, and no more steps were done than there are
+-- no programme has more operations, log entries and orders together, than steps were done, even with an order for each key used
+-- since the last review; and no more steps were done than there are
 pub record HasShortProgrammes (plan : Plan) (h : List Event) : Type 0 where
-  pub programmes : (node : ℕ) → length (programme_at (state plan h).programmes node) ≤ (state plan h).next
+  pub programmes : (node : ℕ) → length (programme_at (state plan h).programmes node) + length (state plan h).usage ≤ (state plan h).next
   pub steps : (state plan h).next ≤ length plan.steps

@@ -12,7 +12,8 @@ pub fn runs_are_bounded()
     ensures { (plan : Plan) (h : List Event) → Run plan h → length h ≤ bound plan }
 {}
 
-/// No node's programme has more operations than steps were done, and no more steps are done than the plan has.
+/// No node's programme has more operations than steps were done, even with an order for each key that was used since the last
+/// review; and no more steps are done than the plan has.
 #[tactic(auto, using(crate::proofs::Paying::short_programmes))]
 pub fn programmes_are_short()
     ensures { (plan : Plan) (h : List Event) → Run plan h → HasShortProgrammes plan h }

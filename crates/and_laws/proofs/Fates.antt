@@ -60,7 +60,7 @@ weigh_as_one : (o : Option ℕ) → weigh as_one o ≡ one_if (is_some o)
 weigh_as_one None = refl
 weigh_as_one (Some j) = refl
 
-nothing_at_start : (plan : Plan) → queued_count (state plan []).flow + in_hand_count (state plan []).flow ≡ 0
+pub nothing_at_start : (plan : Plan) → queued_count (state plan []).flow + in_hand_count (state plan []).flow ≡ 0
 unfolding state start
 nothing_at_start plan =
     omega (

@@ -1,10 +1,11 @@
 -- What it says of the plain state that a step fits.
 use Rattle.std.proofs.Common.{◌≡◌, ℕ, ◌<◌, Bool, true, false, not, refl, arith, Option, Some, None}
-use Rattle.std.specs.Prelude.{nat_lt, if◌then◌else◌}
+use Rattle.std.specs.Prelude.{nat_lt, ◌==◌, if◌then◌else◌}
+use Rattle.std.specs.List.{list_any}
 use Rattle.std.proofs.lemmas.Grind.{common_steps}
 use Rattle.and_policy.specs.declared.entry.Entry.TheVariants as entries
 use Rattle.and_policy.specs.declared.entry.EntryFault.{EntryFault}
-use Rattle.and_policy.specs.Logs.{is_live}
+use Rattle.and_policy.specs.Logs.{is_live, added}
 use Rattle.and_policy.specs.Owners.{place}
 use Rattle.and_events.specs.declared.plan.Item.TheVariants as items
 use Rattle.and_events.specs.declared.plan.ItemFault.{ItemFault}
@@ -36,6 +37,10 @@ added_anew plan p vm net mac ip host f =
     let anew = passed _ _ _ in_net.1 in
     let there = passed _ _ _ anew.1 in
     (not_added p.log vm anew.0, below host plan.settings.hosts (is_true _ there.0))
+
+-- nor was it ever added before
+pub never_added : (plan : Plan) (p : Script) (vm net mac ip host : ℕ) → Fits plan p (items.Entry (entries.AddVm vm net mac ip host)) → list_any (λ v. v.number == vm) (added p.log) ≡ false
+never_added plan p vm net mac ip host f = (passed _ _ _ (passed _ _ _ (both_none _ _ f).0).1).0
 
 -- one that is removed was live and in no blackout
 pub removed_at_rest : (plan : Plan) (p : Script) (vm : ℕ) → Fits plan p (items.Entry (entries.RemoveVm vm)) → (is_live p.log vm ≡ true) × (is_moving p vm ≡ false)

@@ -12,10 +12,18 @@
 //! - `Moves::balance`: a fate is where the move takes a packet out, an injection where it brings one in or loses it;
 //! - `LegalMoves::legal_moves`: a legal event makes a move that is possible; `Programmed::legal_words` is the same for programmes;
 //! - `Losses::due_loss`: what a loss has behind it;
-//! - `Injected::injected`, `Following::follows`: what the event of a step does to the plain state of the script.
+//! - `Injected::injected`, `Following::follows`: what the event of a step does to the plain state of the script;
+//! - `Paying::event_pays`: what pays for an event, so that a run ends; `Short::grows`: what pays for the operations of a programme;
+//! - `Leaving::orderly`, `Needs::no_grab`, `Leads::event_goes`: what kind of move an event makes;
+//! - `Staged::stages_so_far`: what an event does to the decisions behind each packet's place; `Justified::just_by`: why a fate came.
+//!
+//! Where a packet is says which decisions led it there (`specs/Stages.antt`): from that a fate's reason is read off the actor's hand.
+//! That a live order leads where the route leads (`LiveOrders::live_leads`) rests on `Apart::routed_kept`: entries of other networks
+//! change no route, as no VM number is given twice (`Numbers`).
 //!
 //! **A new event** brings a line in `legal_moves`, one in `balance` for each of its ends where it can be a fate, one in
-//! `due_loss` where it can lose a packet, and as a step one each in `injected` and `follows`. `Hold` and `Free`, for
+//! `due_loss` where it can lose a packet, as a step one each in `injected` and `follows`, and one in each of the other tables where
+//! it moves a packet. `Hold` and `Free`, for
 //! example, move no packet (`tt` in `legal_moves`), are no fates, say no word to a programme (the last lines of the other tables), inject
 //! nothing (`same_sent`), and leave log, VMs and ports alone (`by_quiet`). The component that they do change, the holds of the
 //! nodes, has one lemma for its one kind of write, `Sizes::hold_set`; no other law knows them.
@@ -25,13 +33,21 @@
 #![tactic(auto)]
 
 mod ends;
+mod fresh;
+mod just;
+mod length;
 mod limits;
 mod packets;
 mod ports;
 mod programmes;
+mod targets;
 
 pub use ends::{all_done_at_the_end, one_fate_at_the_end};
+pub use fresh::decisions_are_fresh;
+pub use just::{fates_are_just, offloads_lead_right, places_follow_decisions};
+pub use length::{programmes_are_short, runs_are_bounded};
 pub use limits::{hops_add_up, losses_are_due, queues_are_within_capacity};
 pub use packets::{all_accounted, one_fate_or_place};
 pub use ports::{live_vms_run_once, ports_follow_the_steps};
 pub use programmes::programmes_follow_the_log;
+pub use targets::packets_go_to_nodes;

@@ -1,0 +1,4 @@
+pub mod Plans
+pub mod More
+pub mod Steps
+pub mod Taking

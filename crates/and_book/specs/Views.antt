@@ -1,5 +1,5 @@
 -- A book as contracts see it, and what its calls ask for.
-use Rattle.std.specs.Prelude.{◌≡◌, ℕ, ◌-◌, ◌<◌, ◌≤◌, nat_lt, false, if◌then◌else◌, List, [], ◌∷◌, ◌++◌, length, None}
+use Rattle.std.specs.Prelude.{◌≡◌, ℕ, ◌-◌, ◌<◌, ◌≤◌, nat_lt, nat_le, Bool, false, if◌then◌else◌, List, [], ◌∷◌, ◌++◌, length, Option, Some, None}
 use Rattle.and_parcel.specs.Parcels.{ParcelView}
 use Rattle.and_events.specs.declared.event.Node.TheVariants.{Host}
 use Rattle.and_events.specs.declared.event.Actor.{Actor}
@@ -8,11 +8,13 @@ use Rattle.and_events.specs.declared.event.Queue.{Queue}
 use Rattle.and_events.specs.declared.event.Queue.TheVariants.{Out, Wire, Seal}
 use Rattle.and_events.specs.declared.event.Event.{Event}
 use Rattle.and_events.specs.declared.event.Line.{Line}
+use Rattle.and_events.specs.declared.plan.Step.{Step}
+use Rattle.and_events.specs.declared.plan.Step.TheVariants as steps
 use Rattle.and_events.specs.declared.plan.Settings.{Settings}
 use Rattle.and_events.specs.declared.plan.Plan.{Plan}
-use Rattle.and_events.specs.Places.{queue_place, hand_place, node_of, seat_of, IsActor}
+use Rattle.and_events.specs.Places.{queue_place, hand_place, node_of, capacity_at, seat_of, IsActor}
 use Rattle.and_events.specs.Flow.{Flow, queue_at, hand_at}
-use Rattle.and_events.specs.State.{State, state, packet_at, frame_at}
+use Rattle.and_events.specs.State.{State, state, packet_at, frame_at, home}
 use Rattle.and_events.specs.Legal.{forward_held}
 use Rattle.and_events.specs.Run.{past}
 use Rattle.and_laws.specs.Fates.{in_hand_count}
@@ -71,3 +73,14 @@ pub record MayTake (plan : Plan) (s : State) (a : Actor) : Type 0 where
 pub record IsPacket (plan : Plan) (p : ParcelView) : Type 0 where
   pub frame : p.frame ≡ frame_at plan p.packet
   pub vm : p.vm ≡ (packet_at plan p.packet).vm
+
+-- the step appends an entry
+abbrev pub IsAppend : Option Step → Type 0
+IsAppend (Some (steps.Append e)) = Unit {0}
+IsAppend _ = ⊥
+
+-- the packet finds the `out` queue of its VM's host full
+abbrev pub finds_full : Plan → State → ℕ → Bool
+finds_full plan s i =
+    let q = queue_place plan.settings (Host (home plan s i)) Out in
+    nat_le (capacity_at plan.settings q) (length (queue_at s.flow.queues q))

@@ -3,16 +3,17 @@ ghost use Rattle.std.specs.Prelude.{◌≡◌, ℕ, ◌+◌, ◌<◌, ◌≤◌,
 ghost use Rattle.and_events.specs.declared.event.Actor.TheVariants.{Driver};
 ghost use Rattle.and_events.specs.Places as places;
 ghost use Rattle.and_events.specs.Places.{installer_of, IsNode};
-ghost use Rattle.and_events.specs.State.{programme_of, announced_of, installed_of};
-ghost use Rattle.and_events.specs.Legal.{CanAnnounce, CanInstall, IsAtRest, IsOver};
-ghost use Rattle.and_events.specs.Sound.{IsSound, IsBuilt};
-ghost use Rattle.and_book.specs.Views.{BookView, now, held, IsSeat, with_line, source_in, MayTake, IsPacket};
+ghost use Rattle.and_events.specs.State.{programme_of, announced_of, installed_of, home, packet_at, ports_move_of_entry};
+ghost use Rattle.and_events.specs.Ports.{ports_after};
+ghost use Rattle.and_events.specs.Legal.{CanAnnounce, CanInstall, IsAtRest, IsOver, KnowsVm};
+ghost use Rattle.and_events.specs.Sound.{IsSound, IsBuilt, IsBuiltEntry};
+ghost use Rattle.and_book.specs.Views.{BookView, now, held, IsSeat, with_line, source_in, MayTake, IsPacket, IsAppend, finds_full};
 
 use crate::places::{hand_place, node_of, node_place, queue_place, source};
-use and_events::{Actor, Event, Held, Line, Node, Plan, Step};
+use and_events::{Actor, Event, Held, Items, Line, Node, Plan, Queue, Step};
 use and_kept::{PortTable, Progress, Traffic};
 use and_parcel::Parcel;
-use and_policy::{NoMemory, Op};
+use and_policy::{Entry, NoMemory, Op};
 use std::alloc::Global;
 use std::marker::Model;
 
@@ -226,5 +227,66 @@ impl Book {
             },
         });
         (held, parcel)
+    }
+
+    /// The entry of the step that is due goes to the log and to every programme.
+    pub fn append(&mut self, seat: u32)
+        requires seat { IsSeat self.old seat Driver }
+        requires due { IsAppend (slice_get self.old.plan.steps (now self.old).next) }
+        requires room { held self.old + 1 ≤ self.old.spare }
+        ensures { self.new ≡ with_line self.old seat (Event.Append (now self.old).next) }
+    {
+        let step = self.next;
+        let entry = due_entry(&self.plan.steps, step);
+        self.progress.append(entry);
+        note_ports(&mut self.ports, entry);
+        self.next += 1;
+        self.lines.push_reserved(Line {
+            seat,
+            event: Event::Append { step },
+        });
+    }
+
+    /// The packet of the step that is due comes to the `out` queue of its VM's host, or is lost where that is full.
+    pub fn inject(&mut self, seat: u32, parcel: Parcel)
+        requires seat { IsSeat self.old seat Driver }
+        requires due { slice_get self.old.plan.steps (now self.old).next ≡ Some (Step.Inject parcel.packet) }
+        requires ready { KnowsVm self.old.plan (now self.old) (home self.old.plan (now self.old) parcel.packet) (packet_at self.old.plan parcel.packet).vm }
+        requires parcel { IsPacket self.old.plan parcel }
+        requires room { held self.old + 1 ≤ self.old.spare }
+        ensures { self.new ≡ with_line self.old seat (Event.Inject (now self.old).next parcel.packet (finds_full self.old.plan (now self.old) parcel.packet)) }
+    {
+        let step = self.next;
+        let packet = parcel.packet();
+        let host = self.progress.place(parcel.vm()).unwrap_or(0);
+        let queue = queue_place(self.plan.settings, Node::Host(host), Queue::Out);
+        let full = self.traffic.enter(queue, parcel);
+        self.next += 1;
+        self.lines.push_reserved(Line {
+            seat,
+            event: Event::Inject { step, packet, full },
+        });
+    }
+}
+
+// The entry that a step appends.
+fn due_entry(steps: &Items<Step>, step: u32) -> Entry
+    requires { IsAppend (slice_get steps.now step) }
+    ensures { slice_get steps.now step ≡ Some (Step.Append result) }
+{
+    match steps.get(step as usize) {
+        Some(Step::Append(entry)) => *entry,
+        _ => unreachable!(),
+    }
+}
+
+// The ports after a log entry.
+#[tactic(auto, unfolding(and_events::specs::Ports::ports_after))]
+fn note_ports(ports: &mut PortTable, entry: Entry)
+    requires { IsBuiltEntry entry }
+    ensures { ports.new ≡ ports_after ports.old (ports_move_of_entry entry) }
+{
+    if let Entry::AddVm { vm, host, .. } = entry {
+        ports.boot(host as usize, vm as usize);
     }
 }

@@ -5,3 +5,5 @@ pub mod Taking
 pub mod Known
 pub mod Ends
 pub mod Injecting
+pub mod Leading
+pub mod Settled

@@ -8,12 +8,14 @@ ghost use Rattle.and_events.specs.Ports.{ports_after};
 ghost use Rattle.and_events.specs.Legal.{CanAnnounce, CanInstall, IsAtRest, IsOver, KnowsVm};
 ghost use Rattle.and_events.specs.Sound.{IsSound, IsBuilt, IsBuiltEntry};
 ghost use Rattle.and_book.specs.Views.{BookView, now, held, IsSeat, with_line, source_in, MayTake, IsPacket, IsAppend, finds_full};
+ghost use Rattle.and_book.specs.Settling.{MaySettleGateway, gate_event};
 
 use crate::places::{hand_place, node_of, node_place, queue_place, source};
+use crate::sending::settle_gate;
 use and_events::{Actor, Event, Held, Items, Line, Node, Plan, Queue, Step};
 use and_kept::{PortTable, Progress, Traffic};
 use and_parcel::Parcel;
-use and_policy::{Entry, NoMemory, Op};
+use and_policy::{Entry, GateDecision, NoMemory, Op};
 use std::alloc::Global;
 use std::marker::Model;
 
@@ -266,6 +268,25 @@ impl Book {
             seat,
             event: Event::Inject { step, packet, full },
         });
+    }
+
+    /// The gateway worker settles the packet in its hand by a decision of the policy.
+    pub fn settle_gateway(
+        &mut self,
+        seat: u32,
+        actor: Actor,
+        parcel: Parcel,
+        decision: GateDecision,
+    )
+        requires seat { IsSeat self.old seat actor }
+        requires ready { MaySettleGateway self.old.plan (now self.old) actor parcel.packet decision }
+        requires parcel { IsPacket self.old.plan parcel }
+        ensures { self.new ≡ with_line self.old seat (gate_event self.old.plan.settings (now self.old).flow actor parcel.packet decision) }
+    {
+        let settings = self.plan.settings;
+        let hand = hand_place(settings, actor);
+        let event = settle_gate(settings, &mut self.traffic, hand, actor, parcel, decision);
+        self.lines.push_reserved(Line { seat, event });
     }
 }
 

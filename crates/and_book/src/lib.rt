@@ -9,5 +9,6 @@
 
 mod book;
 mod places;
+mod sending;
 
 pub use book::Book;

@@ -72,11 +72,15 @@ added_named plan log vm q known e =
     let at = position-Some (adds vm) log k.0 entries.Tick k.1 in
     named plan (get_or log k.0 entries.Tick) vm (known k.0 entries.Tick at.0) at.1
 
--- the entry of a built step is built
-pub built_entry : (plan : Plan) (n : ℕ) (e : Entry) → IsBuilt plan → slice_get plan.steps n ≡ Some (Append e) → IsBuiltEntry e
-built_entry plan n e built told = at plan.steps n built.steps told
+-- a step of a built plan is built
+pub built_step : (plan : Plan) (n : ℕ) (step : Step) → IsBuilt plan → slice_get plan.steps n ≡ Some step → IsBuiltStep step
+built_step plan n step built told = at plan.steps n built.steps told
   where
-    at : (ss : List Step) (m : ℕ) → All IsBuiltStep ss → slice_get ss m ≡ Some (Append e) → IsBuiltEntry e
+    at : (ss : List Step) (m : ℕ) → All IsBuiltStep ss → slice_get ss m ≡ Some step → IsBuiltStep step
     at [] m all is = absurd (cc)
-    at (x ∷ ss) zero all is = let same : x ≡ Append e = cc in subst IsBuiltStep same (All-head IsBuiltStep x ss all)
+    at (x ∷ ss) zero all is = let same : x ≡ step = cc in subst IsBuiltStep same (All-head IsBuiltStep x ss all)
     at (x ∷ ss) (suc m) all is = at ss m (All-tail IsBuiltStep x ss all) is
+
+-- the entry that it appends is built
+pub built_entry : (plan : Plan) (n : ℕ) (e : Entry) → IsBuilt plan → slice_get plan.steps n ≡ Some (Append e) → IsBuiltEntry e
+built_entry plan n e built told = built_step plan n (Append e) built told

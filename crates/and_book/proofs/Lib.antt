@@ -7,3 +7,5 @@ pub mod Ends
 pub mod Injecting
 pub mod Leading
 pub mod Settled
+pub mod PlainPorts
+pub mod Arriving

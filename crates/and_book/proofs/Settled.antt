@@ -89,7 +89,7 @@ after_gate plan s k roads a i hand d st there moved same =
 
 -- ---- the hand is empty then
 
-lets_go : (f : Flow) (hand : ℕ) (h : Held) → hand < length f.hands → hand_at f.hands hand ≡ Some h → in_hand_count (flow_after f (Stop hand h.packet)) + 1 ≡ in_hand_count f
+pub lets_go : (f : Flow) (hand : ℕ) (h : Held) → hand < length f.hands → hand_at f.hands hand ≡ Some h → in_hand_count (flow_after f (Stop hand h.packet)) + 1 ≡ in_hand_count f
 unfolding flow_after
 lets_go f hand h there is =
     let none : Option Held = None in

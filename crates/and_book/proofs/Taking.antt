@@ -91,7 +91,7 @@ one_held f f' hand from h there is =
 
 -- ---- parcels
 
-at_or : {X : Type 0} (P : X → Type 0) (xs : List X) (i : ℕ) (d : X) → All P xs → P d → P (get_or xs i d)
+pub at_or : {X : Type 0} (P : X → Type 0) (xs : List X) (i : ℕ) (d : X) → All P xs → P d → P (get_or xs i d)
 at_or P [] i d all p = p
 at_or P (x ∷ xs) zero d all p = All-head P x xs all
 at_or P (x ∷ xs) (suc i) d all p = at_or P xs i d (All-tail P x xs all) p

@@ -1,5 +1,5 @@
 -- How a packet in hand is settled, by what the policy says of it.
-use Rattle.std.specs.Prelude.{◌≡◌, ℕ, ◌<◌, List}
+use Rattle.std.specs.Prelude.{◌≡◌, ℕ, ◌<◌, Bool, List}
 use Rattle.and_policy.specs.declared.decision.Name.{Name}
 use Rattle.and_policy.specs.declared.decision.Routed.{Routed}
 use Rattle.and_policy.specs.declared.decision.Routed.TheVariants as routeds
@@ -7,15 +7,28 @@ use Rattle.and_policy.specs.declared.decision.Located.{Located}
 use Rattle.and_policy.specs.declared.decision.Located.TheVariants as locateds
 use Rattle.and_policy.specs.declared.decision.GateDecision.{GateDecision}
 use Rattle.and_policy.specs.declared.decision.GateDecision.TheVariants as decisions
+use Rattle.and_policy.specs.declared.decision.Decision.{Decision}
+use Rattle.and_policy.specs.declared.decision.Landing.{Landing}
+use Rattle.and_policy.specs.declared.decision.Landing.TheVariants as landings
+use Rattle.and_policy.specs.declared.decision.Outcome.{Outcome}
+use Rattle.and_policy.specs.declared.decision.Outcome.TheVariants as outcomes
+use Rattle.and_policy.specs.declared.decision.Way.{Way}
+use Rattle.and_policy.specs.declared.packet.Tuple.{Tuple}
+use Rattle.and_policy.specs.declared.port.Port.{Port}
+use Rattle.and_policy.specs.declared.port.Port.TheVariants as port_states
+use Rattle.and_policy.specs.FlowHash.{gateway_of}
+use Rattle.and_policy.specs.Ingress.{landing}
 use Rattle.and_policy.specs.Owners.{routed, located}
 use Rattle.and_parcel.specs.Parcels.{ParcelView}
 use Rattle.and_events.specs.declared.event.Actor.{Actor}
+use Rattle.and_events.specs.declared.event.Arrival.{Arrival}
+use Rattle.and_events.specs.declared.event.Arrival.TheVariants as arrivals
 use Rattle.and_events.specs.declared.event.End.{End}
 use Rattle.and_events.specs.declared.event.End.TheVariants as ends
 use Rattle.and_events.specs.declared.event.Endpoint.{Endpoint}
 use Rattle.and_events.specs.declared.event.Endpoint.TheVariants as endpoints
 use Rattle.and_events.specs.declared.event.Event.{Event}
-use Rattle.and_events.specs.declared.event.Event.TheVariants.{Route, Redirect}
+use Rattle.and_events.specs.declared.event.Event.TheVariants.{Route, Redirect, Ingress}
 use Rattle.and_events.specs.declared.event.Passage.{Passage}
 use Rattle.and_events.specs.declared.event.Passage.TheVariants as passages
 use Rattle.and_events.specs.declared.event.Queue.TheVariants.{Wire}
@@ -23,9 +36,10 @@ use Rattle.and_events.specs.declared.event.Return.{Return}
 use Rattle.and_events.specs.declared.event.Return.TheVariants as returns
 use Rattle.and_events.specs.declared.plan.Plan.{Plan}
 use Rattle.and_events.specs.declared.plan.Settings.{Settings}
-use Rattle.and_events.specs.Places.{queue_place, capacity_at, IsGatewayWorker}
+use Rattle.and_events.specs.Places.{queue_place, capacity_at, node_of, IsWorker, IsGatewayWorker}
 use Rattle.and_events.specs.Flow.{Flow, Move, carried_in, end_of_send}
-use Rattle.and_events.specs.State.{State, node_at, passes, goes_back, carried_at, tuple_at}
+use Rattle.and_events.specs.State.{State, node_at, passes, goes_back, carried_at, tuple_at, host_of}
+use Rattle.and_events.specs.Ports.{port_at}
 use Rattle.and_events.specs.Legal.{Decides, entries_at, IsRouteTarget, IsRedirectTarget}
 use Rattle.and_kept.specs.Lanes.{parcels_after}
 
@@ -111,3 +125,53 @@ pub record MaySettleGateway (plan : Plan) (s : State) (a : Actor) (i : ℕ) (d :
   pub decides : Decides plan s a i Wire (gate_number d)
   pub worker : IsGatewayWorker a
   pub decision : IsGateDecision plan s a i d
+
+-- ---- at a host, where a packet comes for a VM
+
+abbrev pub arrival_at : Settings → Flow → Tuple → ℕ → ℕ → Name → Bool → Port → Arrival
+arrival_at s f x i vm by pass port_states.Running = arrivals.Running vm by pass
+arrival_at s f x i vm by pass port_states.Paused = arrivals.Blackout vm
+arrival_at s f x i vm by pass port_states.Arriving = arrivals.Blackout vm
+arrival_at s f x i vm by pass (port_states.Hairpin host entry) = arrivals.Hairpin vm host (end_to s f i (endpoints.Host host))
+arrival_at s f x i vm by pass port_states.Absent =
+    arrivals.Absent vm (gateway_of s.gateways x) (end_to s f i (endpoints.Redirect (gateway_of s.gateways x)))
+
+-- by the owner's port at this host
+abbrev pub arrival_of : Settings → Flow → List (List Port) → ℕ → Tuple → ℕ → Landing → Arrival
+arrival_of s f ports here x i landings.NoOwner = arrivals.NoOwner
+arrival_of s f ports here x i (landings.Owned vm by pass) = arrival_at s f x i vm by pass (port_at ports here vm)
+
+abbrev pub parcels_arrived : Settings → List (List ParcelView) → ParcelView → Arrival → List (List ParcelView)
+parcels_arrived s parcels p (arrivals.Hairpin vm host end) = parcels_after parcels (queue_to s (endpoints.Host host)) p end
+parcels_arrived s parcels p (arrivals.Absent vm gateway end) = parcels_after parcels (queue_to s (endpoints.Redirect gateway)) p end
+parcels_arrived s parcels p _ = parcels
+
+-- where a hairpin leads is there
+abbrev pub LeadsPort : Settings → Port → Type 0
+LeadsPort s (port_states.Hairpin host entry) = host < s.hosts
+LeadsPort s _ = Unit {0}
+
+abbrev pub LeadsLanding : Settings → List (List Port) → ℕ → Landing → Type 0
+LeadsLanding s ports here (landings.Owned vm by pass) = LeadsPort s (port_at ports here vm)
+LeadsLanding s ports here landings.NoOwner = Unit {0}
+
+-- the policy's word
+abbrev pub landing_said : Plan → State → Actor → ℕ → ℕ → Landing
+landing_said plan s a i at = landing (entries_at plan s a at) (carried_at s i).net (tuple_at plan i)
+
+-- what a host worker's decision of such a packet does
+abbrev pub ingress_event : Plan → State → Actor → ℕ → ℕ → Way → Event
+ingress_event plan s a i at way =
+    Ingress a i at way (arrival_of plan.settings s.flow s.ports (host_of (node_of a)) (tuple_at plan i) i (landing_said plan s a i at))
+
+-- the host worker has the packet in hand, and the decision is the policy's at a number that lies between what was installed
+-- at the take and what is announced
+pub record MaySettleIngress (plan : Plan) (s : State) (a : Actor) (i : ℕ) (d : Decision) : Type 0 where
+  pub decides : Decides plan s a i Wire d.at
+  pub worker : IsWorker a
+  pub said : d.outcome ≡ outcomes.Landing (landing_said plan s a i d.at)
+
+-- the outcome is of a packet that has come for a VM
+abbrev pub IsLanding : Outcome → Type 0
+IsLanding (outcomes.Landing said) = Unit {0}
+IsLanding _ = ⊥

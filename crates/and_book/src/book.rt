@@ -1,21 +1,21 @@
 //! The book.
-ghost use Rattle.std.specs.Prelude.{◌≡◌, ℕ, ◌+◌, ◌<◌, ◌≤◌, ◌^◌, List, [], length, IfOk, OnOk, Some, slice_get};
+ghost use Rattle.std.specs.Prelude.{◌≡◌, ℕ, ◌+◌, ◌<◌, ◌≤◌, ◌^◌, List, [], length, IfOk, OnOk, Some, slice_get, slice_index_or};
 ghost use Rattle.and_events.specs.declared.event.Actor.TheVariants.{Driver};
 ghost use Rattle.and_events.specs.Places as places;
 ghost use Rattle.and_events.specs.Places.{installer_of, IsNode};
-ghost use Rattle.and_events.specs.State.{programme_of, announced_of, installed_of, home, packet_at, ports_move_of_entry};
+ghost use Rattle.and_events.specs.State.{programme_of, announced_of, installed_of, home, packet_at, no_packet, ports_move_of_entry};
 ghost use Rattle.and_events.specs.Ports.{ports_after};
 ghost use Rattle.and_events.specs.Legal.{CanAnnounce, CanInstall, IsAtRest, IsOver, KnowsVm};
 ghost use Rattle.and_events.specs.Sound.{IsSound, IsBuilt, IsBuiltEntry};
 ghost use Rattle.and_book.specs.Views.{BookView, now, held, IsSeat, with_line, source_in, MayTake, IsPacket, IsAppend, finds_full};
-ghost use Rattle.and_book.specs.Settling.{MaySettleGateway, gate_event};
+ghost use Rattle.and_book.specs.Settling.{MaySettleGateway, gate_event, MaySettleIngress, ingress_event, IsLanding};
 
-use crate::places::{hand_place, node_of, node_place, queue_place, source};
-use crate::sending::settle_gate;
-use and_events::{Actor, Event, Held, Items, Line, Node, Plan, Queue, Step};
+use crate::places::{hand_place, host_of, node_of, node_place, queue_place, source};
+use crate::sending::{settle_gate, settle_landing};
+use and_events::{Actor, Event, Held, Items, Line, Node, Packet, Plan, Queue, Step};
 use and_kept::{PortTable, Progress, Traffic};
 use and_parcel::Parcel;
-use and_policy::{Entry, GateDecision, NoMemory, Op};
+use and_policy::{Decision, Entry, GateDecision, Landing, NoMemory, Op, Outcome, Tuple};
 use std::alloc::Global;
 use std::marker::Model;
 
@@ -288,6 +288,41 @@ impl Book {
         let event = settle_gate(settings, &mut self.traffic, hand, actor, parcel, decision);
         self.lines.push_reserved(Line { seat, event });
     }
+
+    /// The host worker settles the packet in its hand that has come for a VM, by a decision of the policy.
+    pub fn settle_ingress(&mut self, seat: u32, actor: Actor, parcel: Parcel, decision: Decision)
+        requires seat { IsSeat self.old seat actor }
+        requires ready { MaySettleIngress self.old.plan (now self.old) actor parcel.packet decision }
+        requires parcel { IsPacket self.old.plan parcel }
+        ensures { self.new ≡ with_line self.old seat (ingress_event self.old.plan (now self.old) actor parcel.packet decision.at decision.way) }
+    {
+        let settings = self.plan.settings;
+        let hand = hand_place(settings, actor);
+        let here = host_of(node_of(actor));
+        let packet = parcel.packet();
+        let tuple = tuple_of(&self.plan.packets, packet);
+        let said = landing_in(decision.outcome);
+        let arrival = settle_landing(
+            settings,
+            &mut self.traffic,
+            &self.ports,
+            here,
+            hand,
+            tuple,
+            parcel,
+            said,
+        );
+        self.lines.push_reserved(Line {
+            seat,
+            event: Event::Ingress {
+                actor,
+                packet,
+                at: decision.at,
+                way: decision.way,
+                arrival,
+            },
+        });
+    }
 }
 
 // The entry that a step appends.
@@ -309,5 +344,27 @@ fn note_ports(ports: &mut PortTable, entry: Entry)
 {
     if let Entry::AddVm { vm, host, .. } = entry {
         ports.boot(host as usize, vm as usize);
+    }
+}
+
+// The tuple of a packet of the plan.
+fn tuple_of(packets: &Items<Packet>, packet: u32) -> Tuple
+    requires { packet < length packets.now }
+    ensures { result ≡ (slice_index_or packets.now packet no_packet).tuple }
+{
+    match packets.get(packet as usize) {
+        Some(found) => found.tuple,
+        None => unreachable!(),
+    }
+}
+
+// What an outcome says of a packet that has come for a VM.
+fn landing_in(outcome: Outcome) -> Landing
+    requires { IsLanding outcome }
+    ensures { outcome ≡ Outcome.Landing result }
+{
+    match outcome {
+        Outcome::Landing(said) => said,
+        Outcome::Leaving(_) => unreachable!(),
     }
 }

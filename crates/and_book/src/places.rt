@@ -1,6 +1,7 @@
 //! Places of nodes, queues and hands.
 ghost use Rattle.std.specs.Prelude.{◌≡◌, ◌+◌, ◌<◌, length};
 ghost use Rattle.and_events.specs.Places as places;
+ghost use Rattle.and_events.specs.State as states;
 ghost use Rattle.and_events.specs.Places.{node_count, queue_count, hand_count, IsNode, IsActor, HasQueue};
 ghost use Rattle.and_book.specs.Views.{IsSmall, Handles, source_in};
 
@@ -86,5 +87,15 @@ pub(crate) fn source(settings: Settings, traffic: &Traffic, actor: Actor) -> Que
         }
         Actor::Coproc(_) => Queue::Seal,
         _ => Queue::Wire,
+    }
+}
+
+/// The host that a node is; 0 for a gateway.
+pub(crate) fn host_of(node: Node) -> u32
+    ensures { result ≡ states.host_of node }
+{
+    match node {
+        Node::Host(host) => host,
+        Node::Gate(_) => 0,
     }
 }

@@ -7,13 +7,13 @@ ghost use Rattle.and_events.specs.Flow.{flow_after, carried_in};
 ghost use Rattle.and_events.specs.State as states;
 ghost use Rattle.and_kept.specs.Lanes.{parcels_after};
 ghost use Rattle.and_book.specs.Views.{IsSmall};
-ghost use Rattle.and_book.specs.Settling.{queue_to, end_to, passage_of, return_of, parcels_passed, parcels_returned, LeadsRouted, LeadsLocated, LeadsGate, gate_event, gate_move, gate_parcels};
+ghost use Rattle.and_book.specs.Settling.{queue_to, end_to, passage_of, return_of, parcels_passed, parcels_returned, LeadsRouted, LeadsLocated, LeadsGate, gate_event, gate_move, gate_parcels, arrival_at, arrival_of, parcels_arrived, LeadsPort, LeadsLanding};
 
 use crate::places::queue_place;
-use and_events::{Actor, End, Endpoint, Event, Node, Passage, Queue, Return, Settings};
-use and_kept::Traffic;
+use and_events::{Actor, Arrival, End, Endpoint, Event, Node, Passage, Queue, Return, Settings};
+use and_kept::{PortTable, Traffic};
 use and_parcel::Parcel;
-use and_policy::{GateDecision, Located, Routed};
+use and_policy::{GateDecision, Landing, Located, Name, Port, Routed, Tuple, flow_hash};
 
 // The node at which a send for an endpoint arrives.
 fn node_at(target: Endpoint) -> Node
@@ -177,6 +177,98 @@ pub(crate) fn settle_gate(
                 at,
                 back,
             }
+        }
+    }
+}
+
+// What becomes of a packet at its owner's host or where the owner was thought to be, by the owner's port there.
+fn arrive(
+    settings: Settings,
+    traffic: &mut Traffic,
+    port: Port,
+    hand: usize,
+    tuple: Tuple,
+    parcel: Parcel,
+    vm: u32,
+    by: Name,
+    pass: bool,
+) -> Arrival
+    requires small { IsSmall settings }
+    requires gateways { 0 < settings.gateways }
+    requires hand { hand < length traffic.old.flow.hands }
+    requires queues { length traffic.old.flow.queues ≡ queue_count settings }
+    requires packet { parcel.packet < length traffic.old.flow.carried }
+    requires capacities { (q : ℕ) → q < queue_count settings → slice_index traffic.old.capacities q ≡ capacity_at settings q }
+    requires leads { LeadsPort settings port }
+    ensures arrival { result ≡ arrival_at settings traffic.old.flow tuple parcel.packet vm by pass port }
+    ensures flow { traffic.new.flow ≡ flow_after traffic.old.flow (states.arrives settings (carried_in traffic.old.flow.carried parcel.packet) hand parcel.packet result) }
+    ensures parcels { traffic.new.parcels ≡ parcels_arrived settings traffic.old.parcels parcel result }
+    ensures capacities { traffic.new.capacities ≡ traffic.old.capacities }
+{
+    let net = traffic.carried(parcel.packet()).net;
+    match port {
+        Port::Running => {
+            traffic.stop(hand, parcel);
+            Arrival::Running { vm, by, pass }
+        }
+        Port::Paused => {
+            traffic.stop(hand, parcel);
+            Arrival::Blackout { vm }
+        }
+        Port::Arriving => {
+            traffic.stop(hand, parcel);
+            Arrival::Blackout { vm }
+        }
+        Port::Hairpin { host, .. } => {
+            let end = send(settings, traffic, hand, parcel, net, Endpoint::Host(host));
+            Arrival::Hairpin { vm, host, end }
+        }
+        Port::Absent => {
+            let gateway = u32::from(flow_hash(&tuple)) % settings.gateways;
+            let end = send(
+                settings,
+                traffic,
+                hand,
+                parcel,
+                net,
+                Endpoint::Redirect(gateway),
+            );
+            Arrival::Absent { vm, gateway, end }
+        }
+    }
+}
+
+/// What a host worker's decision does with the packet in its hand that has come for a VM.
+pub(crate) fn settle_landing(
+    settings: Settings,
+    traffic: &mut Traffic,
+    ports: &PortTable,
+    here: u32,
+    hand: usize,
+    tuple: Tuple,
+    parcel: Parcel,
+    said: Landing,
+) -> Arrival
+    requires small { IsSmall settings }
+    requires gateways { 0 < settings.gateways }
+    requires hand { hand < length traffic.old.flow.hands }
+    requires queues { length traffic.old.flow.queues ≡ queue_count settings }
+    requires packet { parcel.packet < length traffic.old.flow.carried }
+    requires capacities { (q : ℕ) → q < queue_count settings → slice_index traffic.old.capacities q ≡ capacity_at settings q }
+    requires leads { LeadsLanding settings ports.now here said }
+    ensures arrival { result ≡ arrival_of settings traffic.old.flow ports.now here tuple parcel.packet said }
+    ensures flow { traffic.new.flow ≡ flow_after traffic.old.flow (states.arrives settings (carried_in traffic.old.flow.carried parcel.packet) hand parcel.packet result) }
+    ensures parcels { traffic.new.parcels ≡ parcels_arrived settings traffic.old.parcels parcel result }
+    ensures capacities { traffic.new.capacities ≡ traffic.old.capacities }
+{
+    match said {
+        Landing::NoOwner => {
+            traffic.stop(hand, parcel);
+            Arrival::NoOwner
+        }
+        Landing::Owned { vm, by, pass } => {
+            let port = ports.at(here as usize, vm as usize);
+            arrive(settings, traffic, port, hand, tuple, parcel, vm, by, pass)
         }
     }
 }

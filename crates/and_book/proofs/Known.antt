@@ -1,0 +1,86 @@
+-- What the log of a built plan has: the numbers of its entries are in their ranges.
+use Rattle.std.proofs.Common.{◌≡◌, ℕ, zero, suc, ◌<◌, ◌≤◌, true, List, [], ◌∷◌, length, take, get_or, refl, sym, subst, arith, Option, Some, None}
+use Rattle.std.specs.Prelude.{slice_get, position, option_map}
+use Rattle.std.specs.List.{All}
+use Rattle.std.proofs.lemmas.Bool.{eqb-true}
+use Rattle.std.proofs.lemmas.List.Elements.{All-nil, All-push, All-head, All-tail}
+use Rattle.std.proofs.lemmas.List.Quantifiers.{position-Some}
+use Rattle.and_policy.specs.declared.entry.Entry.{Entry}
+use Rattle.and_policy.specs.declared.entry.Entry.TheVariants as entries
+use Rattle.and_events.specs.declared.event.Event.{Event}
+use Rattle.and_events.specs.declared.plan.Step.{Step}
+use Rattle.and_events.specs.declared.plan.Step.TheVariants.{Append, Wait, Inject, Finish}
+use Rattle.and_events.specs.declared.plan.Plan.{Plan}
+use Rattle.and_events.specs.Script.{Script, at_start}
+use Rattle.and_events.specs.Sound.{IsSound, StepsFit, IsBuilt, IsBuiltStep, IsBuiltEntry}
+use Rattle.and_events.specs.State.{state}
+use Rattle.and_events.specs.Legal.{adds, added_at}
+use Rattle.and_events.specs.Run.{Run}
+use Rattle.and_laws.specs.Scripted.{script_after_steps}
+use Rattle.and_laws.proofs.Following.{follows_steps}
+use Rattle.and_laws.proofs.StepFacts.{added_anew}
+
+-- a VM that is added has a name, a network within its 24 bits, and a host that is there
+abbrev pub IsKnown : Plan → Entry → Type 0
+IsKnown plan (entries.AddNet net) = Unit {0}
+IsKnown plan (entries.AddVm vm net mac ip host) = (vm < length plan.names) × (net ≤ 16777215) × (host < plan.settings.hosts)
+IsKnown plan (entries.AddRule net rule) = Unit {0}
+IsKnown plan _ = ⊥
+
+known_script : (plan : Plan) (p : Script) (sent : ℕ) (ss : List Step) (n : ℕ) → StepsFit plan p sent ss → All IsBuiltStep ss → All (IsKnown plan) p.log → All (IsKnown plan) (script_after_steps p (take n ss)).log
+known_script plan p sent [] n f built known = absurd f
+known_script plan p sent (Finish ∷ []) zero f built known = known
+known_script plan p sent (Finish ∷ []) (suc zero) f built known = known
+known_script plan p sent (Finish ∷ []) (suc (suc n)) f built known = known
+known_script plan p sent (Finish ∷ other ∷ later) n f built known = absurd f.0
+known_script plan p sent (step ∷ later) zero f built known = known
+known_script plan p sent (Append (entries.AddNet net) ∷ later) (suc n) f built known =
+    known_script plan _ _ later n f.1 (All-tail IsBuiltStep _ later built) (All-push (IsKnown plan) p.log (entries.AddNet net) known tt)
+known_script plan p sent (Append (entries.AddVm vm net mac ip host) ∷ later) (suc n) f built known =
+    known_script plan _ _ later n f.1 (All-tail IsBuiltStep _ later built)
+    (All-push (IsKnown plan) p.log (entries.AddVm vm net mac ip host) known (f.0.1.0, f.0.1.1.1, (added_anew plan p vm net mac ip host f.0.0).1))
+known_script plan p sent (Append (entries.AddRule net rule) ∷ later) (suc n) f built known =
+    known_script plan _ _ later n f.1 (All-tail IsBuiltStep _ later built) (All-push (IsKnown plan) p.log (entries.AddRule net rule) known tt)
+known_script plan p sent (Wait ∷ later) (suc n) f built known = known_script plan _ _ later n f.1 (All-tail IsBuiltStep _ later built) known
+known_script plan p sent (Inject i ∷ later) (suc n) f built known = known_script plan _ _ later n f.1 (All-tail IsBuiltStep _ later built) known
+known_script plan p sent (step ∷ later) (suc n) f built known = absurd (All-head IsBuiltStep step later built)
+
+pub known_log : (plan : Plan) (h : List Event) → IsSound plan → IsBuilt plan → Run plan h → All (IsKnown plan) (state plan h).programmes.log
+known_log plan h sound built r =
+    subst (All (IsKnown plan)) (sym (follows_steps plan h sound r).log)
+    (known_script plan at_start 0 plan.steps (state plan h).next sound.steps built.steps (All-nil (IsKnown plan)))
+
+named : (plan : Plan) (e : Entry) (vm : ℕ) → IsKnown plan e → adds vm e ≡ true → vm < length plan.names
+named plan (entries.AddVm v net mac ip host) vm known is = omega (arith, known.0, eqb-true v vm is)
+named plan (entries.AddNet net) vm known is = absurd (cc)
+named plan (entries.AddRule net rule) vm known is = absurd (cc)
+named plan (entries.RemoveVm v) vm known is = absurd known
+named plan (entries.Place v host) vm known is = absurd known
+named plan (entries.DelRule net number) vm known is = absurd known
+named plan (entries.AddRoute net route) vm known is = absurd known
+named plan (entries.DelRoute net number) vm known is = absurd known
+named plan entries.Tick vm known is = absurd known
+
+found : (o : Option ℕ) (q : ℕ) → option_map suc o ≡ Some q → (k : ℕ) × (o ≡ Some k)
+found None q e = absurd (cc)
+found (Some k) q e = (k, refl)
+
+-- a VM that the log adds has a name
+pub added_named : (plan : Plan) (log : List Entry) (vm q : ℕ) → All (IsKnown plan) log → added_at log vm ≡ Some q → vm < length plan.names
+added_named plan log vm q known e =
+    let k = found (position (adds vm) log) q e in
+    let at = position-Some (adds vm) log k.0 entries.Tick k.1 in
+    named plan (get_or log k.0 entries.Tick) vm (known k.0 entries.Tick at.0) at.1
+
+-- a step of a built plan is built
+pub built_step : (plan : Plan) (n : ℕ) (step : Step) → IsBuilt plan → slice_get plan.steps n ≡ Some step → IsBuiltStep step
+built_step plan n step built told = at plan.steps n built.steps told
+  where
+    at : (ss : List Step) (m : ℕ) → All IsBuiltStep ss → slice_get ss m ≡ Some step → IsBuiltStep step
+    at [] m all is = absurd (cc)
+    at (x ∷ ss) zero all is = let same : x ≡ step = cc in subst IsBuiltStep same (All-head IsBuiltStep x ss all)
+    at (x ∷ ss) (suc m) all is = at ss m (All-tail IsBuiltStep x ss all) is
+
+-- the entry that it appends is built
+pub built_entry : (plan : Plan) (n : ℕ) (e : Entry) → IsBuilt plan → slice_get plan.steps n ≡ Some (Append e) → IsBuiltEntry e
+built_entry plan n e built told = built_step plan n (Append e) built told

@@ -1,0 +1,93 @@
+-- Where the policy's words lead in a built plan.
+use Rattle.std.proofs.Common.{◌≡◌, ℕ, zero, suc, ◌<◌, List, [], ◌∷◌, take, refl, sym, subst, arith, Option, Some, None}
+use Rattle.std.specs.List.{All}
+use Rattle.std.proofs.lemmas.List.Elements.{All-nil, All-cons, All-head, All-tail}
+use Rattle.and_policy.specs.declared.decision.GateDecision.{GateDecision}
+use Rattle.and_policy.specs.declared.decision.GateDecision.TheVariants as decisions
+use Rattle.and_policy.specs.declared.decision.Name.{Name}
+use Rattle.and_policy.specs.declared.decision.Routing.{Routing}
+use Rattle.and_policy.specs.declared.decision.Routing.TheVariants as routings
+use Rattle.and_policy.specs.declared.entry.Entry.{Entry}
+use Rattle.and_policy.specs.declared.entry.Entry.TheVariants as entry_kinds
+use Rattle.and_policy.specs.declared.entry.Op.{Op}
+use Rattle.and_policy.specs.declared.entry.Op.TheVariants as ops
+use Rattle.and_policy.specs.Owners.{place, host_by, or_else, owner, owner_place, routed_at, routed_by, located_at}
+use Rattle.and_policy.specs.Programmes.{entries}
+use Rattle.and_policy.specs.Routes.{route}
+use Rattle.and_events.specs.declared.event.Actor.{Actor}
+use Rattle.and_events.specs.declared.event.Event.{Event}
+use Rattle.and_events.specs.declared.plan.Plan.{Plan}
+use Rattle.and_events.specs.Places.{node_of, IsNode}
+use Rattle.and_events.specs.State.{State, state, programme_of}
+use Rattle.and_events.specs.Legal.{entries_at}
+use Rattle.and_events.specs.Run.{Run}
+use Rattle.and_events.specs.Sound.{IsSound, IsBuilt}
+use Rattle.and_laws.proofs.Programmed.{programmed}
+use Rattle.and_book.specs.Settling.{LeadsRouted, LeadsLocated, LeadsGate, IsGateDecision}
+use Rattle.and_book.proofs.Known.{IsKnown, known_log}
+
+-- ---- places
+
+host_known : (plan : Plan) (e : Entry) (vm host : ℕ) → IsKnown plan e → host_by vm e ≡ Some host → host < plan.settings.hosts
+host_known plan (entry_kinds.AddVm v net mac ip h) vm host known is = grind (arith, known.2)
+host_known plan (entry_kinds.AddNet net) vm host known is = absurd (cc)
+host_known plan (entry_kinds.AddRule net rule) vm host known is = absurd (cc)
+host_known plan (entry_kinds.RemoveVm v) vm host known is = absurd known
+host_known plan (entry_kinds.Place v h) vm host known is = absurd known
+host_known plan (entry_kinds.DelRule net number) vm host known is = absurd known
+host_known plan (entry_kinds.AddRoute net r) vm host known is = absurd known
+host_known plan (entry_kinds.DelRoute net number) vm host known is = absurd known
+host_known plan entry_kinds.Tick vm host known is = absurd known
+
+either : (a b : Option ℕ) (host : ℕ) (P : Type 0) → (a ≡ Some host → P) → (b ≡ Some host → P) → or_else a b ≡ Some host → P
+either (Some x) b host P f g e = f e
+either None b host P f g e = g e
+
+pub place_known : (plan : Plan) (k : List Entry) (vm host : ℕ) → All (IsKnown plan) k → place k vm ≡ Some host → host < plan.settings.hosts
+place_known plan [] vm host known is = absurd (cc)
+place_known plan (e ∷ later) vm host known is =
+    either (place later vm) (host_by vm e) host (host < plan.settings.hosts)
+    (place_known plan later vm host (All-tail (IsKnown plan) e later known))
+    (host_known plan e vm host (All-head (IsKnown plan) e later known)) is
+
+owner_known : (plan : Plan) (k : List Entry) (net address host : ℕ) → All (IsKnown plan) k → owner_place k net address ≡ Some host → host < plan.settings.hosts
+owner_known plan k net address host known is =
+    elim (owner k net address) as (λ o. (owner k net address ≡ o → host < plan.settings.hosts)) [
+      | None ↦ λ e. absurd (cc (rw e at is))
+      | Some vm ↦ λ e. place_known plan k vm host known (rw e at is)
+    ] refl
+
+-- ---- prefixes
+
+taken : (P : Entry → Type 0) (p : List Op) (j : ℕ) → All P (entries p) → All P (entries (take j p))
+taken P p zero all = All-nil P
+taken P [] (suc j) all = All-nil P
+taken P (ops.Entry e ∷ p) (suc j) all =
+    All-cons P e (entries (take j p)) (All-head P e (entries p) all) (taken P p j (All-tail P e (entries p) all))
+taken P (ops.Offload o ∷ p) (suc j) all = taken P p j all
+
+-- the entries behind a decision are known
+pub known_entries : (plan : Plan) (h : List Event) (a : Actor) (at : ℕ) → IsSound plan → IsBuilt plan → Run plan h → IsNode plan.settings (node_of a) → All (IsKnown plan) (entries_at plan (state plan h) a at)
+known_entries plan h a at sound built r there =
+    taken (IsKnown plan) (programme_of plan (state plan h) (node_of a)) at
+    (subst (All (IsKnown plan)) (sym (programmed plan h r (node_of a) there).log) (known_log plan h sound built r))
+
+-- ---- words
+
+leads_at : (plan : Plan) (by : Name) (net : ℕ) (o : Option ℕ) → ((host : ℕ) → o ≡ Some host → host < plan.settings.hosts) → LeadsRouted plan.settings (routed_at by net o)
+leads_at plan by net None known = tt
+leads_at plan by net (Some host) known = known host refl
+
+leads_by : (plan : Plan) (k : List Entry) (address : ℕ) (r : Routing) → All (IsKnown plan) k → LeadsRouted plan.settings (routed_by k address r)
+leads_by plan k address (routings.Dropped by) known = tt
+leads_by plan k address (routings.Into by net) known = leads_at plan by net (owner_place k net address) (λ host e. owner_known plan k net address host known e)
+
+leads_located : (plan : Plan) (o : Option ℕ) → ((host : ℕ) → o ≡ Some host → host < plan.settings.hosts) → LeadsLocated plan.settings (located_at o)
+leads_located plan None known = tt
+leads_located plan (Some host) known = known host refl
+
+pub leads_gate : (plan : Plan) (s : State) (a : Actor) (i : ℕ) (d : GateDecision) → ((at : ℕ) → All (IsKnown plan) (entries_at plan s a at)) → IsGateDecision plan s a i d → LeadsGate plan.settings d
+leads_gate plan s a i (decisions.Routed at said) known is =
+    subst (LeadsRouted plan.settings) (sym is.1) (leads_by plan (entries_at plan s a at) _ (route (entries_at plan s a at) _ _) (known at))
+leads_gate plan s a i (decisions.Located at said) known is =
+    subst (LeadsLocated plan.settings) (sym is.1) (leads_located plan _ (λ host e. owner_known plan (entries_at plan s a at) _ _ host (known at) e))

@@ -1,0 +1,11 @@
+pub mod Plans
+pub mod More
+pub mod Steps
+pub mod Taking
+pub mod Known
+pub mod Ends
+pub mod Injecting
+pub mod Leading
+pub mod Settled
+pub mod PlainPorts
+pub mod Arriving

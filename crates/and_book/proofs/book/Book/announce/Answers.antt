@@ -1,0 +1,29 @@
+use Rattle.std.proofs.Common.{◌≤◌, ◌-◌, ◌∙◌, vec_len, vec_capacity, arith}
+use Rattle.and_events.specs.declared.plan.Plan.{Plan}
+use Rattle.and_events.specs.declared.event.Event.TheVariants.{Announce}
+use Rattle.and_events.specs.State.{State, state}
+use Rattle.and_events.specs.Places.{installer_of}
+use Rattle.and_events.specs.Legal.{CanAnnounce}
+use Rattle.and_events.specs.Run.{past}
+use Rattle.and_laws.specs.Fates.{in_hand_count}
+use Rattle.and_book.specs.Views.{BookView, now, IsSeat}
+use Rattle.and_book.specs.Inside.{Kept, kept_of}
+use Rattle.and_book.proofs.More.{keeps_more, seen, room_kept}
+use Rattle.and_book.proofs.Steps.{legal_announce, after_announce, upto_programme}
+use Rattle.and_book.proofs.book.Book.announce.Goals as goal
+
+pub invariant_of-self : goal.invariant_of-self
+invariant_of-self c =
+    let x = c.self.inside in
+    let plan : Plan = x.plan in
+    let s : State = state plan (past x.lines.items) in
+    let k : Kept = kept_of x in
+    let ready = seen x c.args.self.now c.self.view_is (λ (b : BookView). CanAnnounce b.plan (now b) c.args.node) c.requires.ready in
+    let seat = seen x c.args.self.now c.self.view_is (λ (b : BookView). IsSeat b c.args.seat (installer_of c.args.node)) c.requires.seat in
+    let room = room_kept x c.args.self.now 1 c.self.view_is c.self.invariant c.requires.room in
+    let fits : in_hand_count k.roads.flow ≤ vec_capacity c.push_reserved.new.self - vec_len c.push_reserved.new.self = omega (arith, room, c.push_reserved.ensures.len, c.push_reserved.ensures.capacity) in
+    let upto = c.announce-upto.ensures.upto ∙ upto_programme plan s k c.args.node c.node_place-place.result c.self.invariant.stands c.node_place-place.ensures.place in
+    keeps_more plan x.threads x.lines.items c.push_reserved.new.self.items k _ _ (vec_capacity c.push_reserved.new.self - vec_len c.push_reserved.new.self) c.args.seat (Announce c.args.node c.announce-upto.result)
+    c.self.invariant (legal_announce plan s c.args.node c.announce-upto.result ready upto) seat c.push_reserved.ensures.items
+    (after_announce plan s k c.announce-upto.new.self c.args.node c.node_place-place.result c.announce-upto.result c.self.invariant.stands c.node_place-place.ensures.place c.announce-upto.ensures.programmes c.announce-upto.ensures.limit c.announce-upto.ensures.vms)
+    c.self.invariant.parcels fits

@@ -1,0 +1,49 @@
+use Rattle.std.proofs.Common.{◌≡◌, ◌≤◌, ◌-◌, ◌∙◌, sym, ap, vec_len, vec_capacity, length, arith, Some}
+use Rattle.std.specs.Prelude.{slice_get}
+use Rattle.std.proofs.lemmas.Option.{slice_get_within}
+use Rattle.and_policy.specs.declared.entry.Entry.{Entry}
+use Rattle.and_events.specs.declared.event.Actor.TheVariants.{Driver}
+use Rattle.and_events.specs.declared.plan.Plan.{Plan}
+use Rattle.and_events.specs.declared.plan.Step.TheVariants as steps
+use Rattle.and_events.specs.State.{State, state}
+use Rattle.and_events.specs.Run.{past}
+use Rattle.and_laws.specs.Fates.{in_hand_count}
+use Rattle.and_book.specs.Views.{BookView, IsSeat}
+use Rattle.and_book.specs.Inside.{Kept, kept_of}
+use Rattle.and_book.proofs.More.{keeps_more, seen, room_kept}
+use Rattle.and_events.specs.declared.event.Event.TheVariants.{Append}
+use Rattle.and_book.proofs.Known.{built_entry}
+use Rattle.and_book.proofs.Plans.{log_room}
+use Rattle.and_book.proofs.Steps.{legal_append, after_append}
+use Rattle.and_book.proofs.book.Book.append.Goals as goal
+
+pub append-requires : goal.append-requires
+append-requires c =
+    let x = c.self.inside in
+    let st = c.self.invariant.stands in
+    let e : Entry = c.due_entry-entry.result in
+    let due : slice_get x.plan.steps (state x.plan (past x.lines.items)).next ≡ Some (steps.Append e) = ap (slice_get x.plan.steps) (sym st.next) ∙ c.due_entry-entry.ensures in
+    let room = log_room x.plan (past x.lines.items) e c.self.invariant.sound c.self.invariant.run due in
+    omega (arith, room, ap (λ p. length p.log) st.programmes, c.self.invariant.sized.limit)
+
+pub note_ports-requires : goal.note_ports-requires
+note_ports-requires c = built_entry c.self.inside.plan c.self.inside.next c.due_entry-entry.result c.self.invariant.built c.due_entry-entry.ensures
+
+pub overflow_add-self : goal.overflow_add-self
+overflow_add-self c = omega (arith, slice_get_within c.self.inside.plan.steps c.self.inside.next _ c.due_entry-entry.ensures, c.self.invariant.sound.few_steps)
+
+pub invariant_of-self : goal.invariant_of-self
+invariant_of-self c =
+    let x = c.self.inside in
+    let plan : Plan = x.plan in
+    let s : State = state plan (past x.lines.items) in
+    let k : Kept = kept_of x in
+    let st = c.self.invariant.stands in
+    let e : Entry = c.due_entry-entry.result in
+    let seat = seen x c.args.self.now c.self.view_is (λ (b : BookView). IsSeat b c.args.seat Driver) c.requires.seat in
+    let room = room_kept x c.args.self.now 1 c.self.view_is c.self.invariant c.requires.room in
+    let fits : in_hand_count k.roads.flow ≤ vec_capacity c.push_reserved.new.self - vec_len c.push_reserved.new.self = omega (arith, room, c.push_reserved.ensures.len, c.push_reserved.ensures.capacity) in
+    keeps_more plan x.threads x.lines.items c.push_reserved.new.self.items k _ _ (vec_capacity c.push_reserved.new.self - vec_len c.push_reserved.new.self) c.args.seat (Append x.next)
+    c.self.invariant (legal_append plan s x.next e st.next c.due_entry-entry.ensures) seat c.push_reserved.ensures.items
+    (after_append plan s k c.append.new.self c.note_ports.new.ports x.next e st c.due_entry-entry.ensures c.append.ensures.programmes c.note_ports.ensures c.append.ensures.limit c.append.ensures.vms)
+    c.self.invariant.parcels fits

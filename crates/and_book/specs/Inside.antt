@@ -1,0 +1,59 @@
+-- How a book's fields stand for the state after its lines.
+use Rattle.std.specs.Prelude.{◌≡◌, ℕ, ◌-◌, ◌<◌, ◌≤◌, List, length, slice_index, vec_len, vec_capacity}
+use Rattle.std.specs.List.{All}
+use Rattle.and_policy.specs.declared.port.Port.{Port}
+use Rattle.and_events.specs.declared.event.Line.{Line}
+use Rattle.and_events.specs.declared.plan.Plan.{Plan}
+use Rattle.and_events.specs.Places.{queue_count, capacity_at, seat_of, actor_of}
+use Rattle.and_events.specs.State.{State, state}
+use Rattle.and_events.specs.Run.{Run, past}
+use Rattle.and_events.specs.Sound.{IsSound, IsBuilt}
+use Rattle.and_laws.specs.Fates.{in_hand_count}
+use Rattle.and_laws.specs.Sizes.{HasSizes, HasNodes}
+use Rattle.and_kept.specs.Lanes.{Roads}
+use Rattle.and_kept.specs.Nodes.{Progressed}
+use Rattle.and_book.specs.declared.book.Book.TheInside.{Inside}
+use Rattle.and_book.specs.Views.{BookView, IsSmall, IsPacket}
+
+-- what is kept of the state
+pub record Kept : Type 0 where
+  pub next : ℕ
+  pub progress : Progressed
+  pub ports : List (List Port)
+  pub roads : Roads
+
+abbrev pub kept_of : Inside → Kept
+kept_of b = record { next = b.next; progress = b.progress; ports = b.ports; roads = b.traffic }
+
+abbrev pub view_of : Inside → BookView
+view_of b = record { plan = b.plan; threads = b.threads; lines = b.lines.items; spare = vec_capacity b.lines - vec_len b.lines }
+
+-- it is that part of the state
+pub record Stands (k : Kept) (s : State) : Type 0 where
+  pub next : k.next ≡ s.next
+  pub programmes : k.progress.programmes ≡ s.programmes
+  pub ports : k.ports ≡ s.ports
+  pub flow : k.roads.flow ≡ s.flow
+
+-- what never changes in it: the queues' capacities, and for how many entries and VMs there is room
+pub record IsSized (plan : Plan) (k : Kept) : Type 0 where
+  pub capacities : (q : ℕ) → q < queue_count plan.settings → slice_index k.roads.capacities q ≡ capacity_at plan.settings q
+  pub limit : k.progress.limit ≡ length plan.log
+  pub vms : k.progress.vms ≡ length plan.names
+
+-- the lines are a run of the plan, each with the seat of its actor, and what is kept is the state after them
+pub record Keeps (plan : Plan) (threads : ℕ) (lines : List Line) (k : Kept) (spare : ℕ) : Type 0 where
+  pub sound : IsSound plan
+  pub built : IsBuilt plan
+  pub run : Run plan (past lines)
+  pub seats : All (λ l. l.seat ≡ seat_of threads plan.settings (actor_of l.event)) lines
+  pub stands : Stands k (state plan (past lines))
+  pub sized : IsSized plan k
+  pub parcels : All (λ ps. All (IsPacket plan) ps) k.roads.parcels
+  pub held : in_hand_count k.roads.flow ≤ spare
+  pub small : IsSmall plan.settings
+  pub sizes : HasSizes plan k.roads.flow
+  pub nodes : HasNodes plan k.progress.programmes
+
+abbrev pub IsBook : Inside → Type 0
+IsBook b = Keeps b.plan b.threads b.lines.items (kept_of b) (vec_capacity b.lines - vec_len b.lines)

@@ -1,0 +1,177 @@
+-- How a packet in hand is settled, by what the policy says of it.
+use Rattle.std.specs.Prelude.{◌≡◌, ℕ, ◌<◌, Bool, List}
+use Rattle.and_policy.specs.declared.decision.Name.{Name}
+use Rattle.and_policy.specs.declared.decision.Routed.{Routed}
+use Rattle.and_policy.specs.declared.decision.Routed.TheVariants as routeds
+use Rattle.and_policy.specs.declared.decision.Located.{Located}
+use Rattle.and_policy.specs.declared.decision.Located.TheVariants as locateds
+use Rattle.and_policy.specs.declared.decision.GateDecision.{GateDecision}
+use Rattle.and_policy.specs.declared.decision.GateDecision.TheVariants as decisions
+use Rattle.and_policy.specs.declared.decision.Decision.{Decision}
+use Rattle.and_policy.specs.declared.decision.Landing.{Landing}
+use Rattle.and_policy.specs.declared.decision.Landing.TheVariants as landings
+use Rattle.and_policy.specs.declared.decision.Outcome.{Outcome}
+use Rattle.and_policy.specs.declared.decision.Outcome.TheVariants as outcomes
+use Rattle.and_policy.specs.declared.decision.Way.{Way}
+use Rattle.and_policy.specs.declared.packet.Tuple.{Tuple}
+use Rattle.and_policy.specs.declared.port.Port.{Port}
+use Rattle.and_policy.specs.declared.port.Port.TheVariants as port_states
+use Rattle.and_policy.specs.FlowHash.{gateway_of}
+use Rattle.and_policy.specs.Ingress.{landing}
+use Rattle.and_policy.specs.Owners.{routed, located}
+use Rattle.and_parcel.specs.Parcels.{ParcelView}
+use Rattle.and_events.specs.declared.event.Actor.{Actor}
+use Rattle.and_events.specs.declared.event.Arrival.{Arrival}
+use Rattle.and_events.specs.declared.event.Arrival.TheVariants as arrivals
+use Rattle.and_events.specs.declared.event.End.{End}
+use Rattle.and_events.specs.declared.event.End.TheVariants as ends
+use Rattle.and_events.specs.declared.event.Endpoint.{Endpoint}
+use Rattle.and_events.specs.declared.event.Endpoint.TheVariants as endpoints
+use Rattle.and_events.specs.declared.event.Event.{Event}
+use Rattle.and_events.specs.declared.event.Event.TheVariants.{Route, Redirect, Ingress}
+use Rattle.and_events.specs.declared.event.Passage.{Passage}
+use Rattle.and_events.specs.declared.event.Passage.TheVariants as passages
+use Rattle.and_events.specs.declared.event.Queue.TheVariants.{Wire}
+use Rattle.and_events.specs.declared.event.Return.{Return}
+use Rattle.and_events.specs.declared.event.Return.TheVariants as returns
+use Rattle.and_events.specs.declared.plan.Plan.{Plan}
+use Rattle.and_events.specs.declared.plan.Settings.{Settings}
+use Rattle.and_events.specs.Places.{queue_place, capacity_at, node_of, IsWorker, IsGatewayWorker}
+use Rattle.and_events.specs.Flow.{Flow, Move, carried_in, end_of_send}
+use Rattle.and_events.specs.State.{State, node_at, passes, goes_back, carried_at, tuple_at, host_of}
+use Rattle.and_events.specs.Ports.{port_at}
+use Rattle.and_events.specs.Legal.{Decides, entries_at, IsRouteTarget, IsRedirectTarget}
+use Rattle.and_kept.specs.Lanes.{parcels_after}
+
+-- ---- sends
+
+-- the place of the queue at which a send ends, and how it ends there
+abbrev pub queue_to : Settings → Endpoint → ℕ
+queue_to s target = queue_place s (node_at target) Wire
+
+abbrev pub end_to : Settings → Flow → ℕ → Endpoint → End
+end_to s f i target = end_of_send (capacity_at s (queue_to s target)) f (queue_to s target) i
+
+-- ---- at a gateway
+
+abbrev pub passage_by : Name → ℕ → ℕ → End → Passage
+passage_by by net host ends.Queued = passages.Send by net host ends.Queued
+passage_by by net host ends.Full = passages.Send by net host ends.Full
+passage_by by net host ends.Hops = passages.Hops by
+
+abbrev pub passage_of : Settings → Flow → ℕ → Routed → Passage
+passage_of s f i (routeds.Dropped by) = passages.Dropped by
+passage_of s f i (routeds.NoOwner by) = passages.NoOwner by
+passage_of s f i (routeds.To by net host) = passage_by by net host (end_to s f i (endpoints.Host host))
+
+abbrev pub return_by : ℕ → End → Return
+return_by host ends.Queued = returns.Send host ends.Queued
+return_by host ends.Full = returns.Send host ends.Full
+return_by host ends.Hops = returns.Hops
+
+abbrev pub return_of : Settings → Flow → ℕ → Located → Return
+return_of s f i locateds.NoOwner = returns.NoOwner
+return_of s f i (locateds.To host) = return_by host (end_to s f i (endpoints.Host host))
+
+abbrev pub parcels_passed : Settings → List (List ParcelView) → ParcelView → Passage → List (List ParcelView)
+parcels_passed s parcels p (passages.Send by net host end) = parcels_after parcels (queue_to s (endpoints.Host host)) p end
+parcels_passed s parcels p _ = parcels
+
+abbrev pub parcels_returned : Settings → List (List ParcelView) → ParcelView → Return → List (List ParcelView)
+parcels_returned s parcels p (returns.Send host end) = parcels_after parcels (queue_to s (endpoints.Host host)) p end
+parcels_returned s parcels p _ = parcels
+
+-- where it leads is there
+abbrev pub LeadsRouted : Settings → Routed → Type 0
+LeadsRouted s (routeds.To by net host) = host < s.hosts
+LeadsRouted s _ = Unit {0}
+
+abbrev pub LeadsLocated : Settings → Located → Type 0
+LeadsLocated s (locateds.To host) = host < s.hosts
+LeadsLocated s _ = Unit {0}
+
+abbrev pub LeadsGate : Settings → GateDecision → Type 0
+LeadsGate s (decisions.Routed at said) = LeadsRouted s said
+LeadsGate s (decisions.Located at said) = LeadsLocated s said
+
+-- what a gateway's decision does
+abbrev pub gate_event : Settings → Flow → Actor → ℕ → GateDecision → Event
+gate_event s f a i (decisions.Routed at said) = Route a i at (passage_of s f i said)
+gate_event s f a i (decisions.Located at said) = Redirect a i at (return_of s f i said)
+
+abbrev pub gate_move : Settings → Flow → ℕ → ℕ → GateDecision → Move
+gate_move s f hand i (decisions.Routed at said) = passes s hand i (passage_of s f i said)
+gate_move s f hand i (decisions.Located at said) = goes_back s (carried_in f.carried i) hand i (return_of s f i said)
+
+abbrev pub gate_parcels : Settings → Flow → List (List ParcelView) → ParcelView → GateDecision → List (List ParcelView)
+gate_parcels s f parcels p (decisions.Routed at said) = parcels_passed s parcels p (passage_of s f p.packet said)
+gate_parcels s f parcels p (decisions.Located at said) = parcels_returned s parcels p (return_of s f p.packet said)
+
+-- the number by which it was decided
+abbrev pub gate_number : GateDecision → ℕ
+gate_number (decisions.Routed at said) = at
+gate_number (decisions.Located at said) = at
+
+-- the packet came for the gateway's route or redirect address, and the decision is the policy's
+abbrev pub IsGateDecision : Plan → State → Actor → ℕ → GateDecision → Type 0
+IsGateDecision plan s a i (decisions.Routed at said) =
+    IsRouteTarget (carried_at s i).target × (said ≡ routed (entries_at plan s a at) (carried_at s i).net (tuple_at plan i).destination)
+IsGateDecision plan s a i (decisions.Located at said) =
+    IsRedirectTarget (carried_at s i).target × (said ≡ located (entries_at plan s a at) (carried_at s i).net (tuple_at plan i).destination)
+
+-- the gateway worker has the packet in hand, and the decision is the policy's at a number that lies between what was
+-- installed at the take and what is announced
+pub record MaySettleGateway (plan : Plan) (s : State) (a : Actor) (i : ℕ) (d : GateDecision) : Type 0 where
+  pub decides : Decides plan s a i Wire (gate_number d)
+  pub worker : IsGatewayWorker a
+  pub decision : IsGateDecision plan s a i d
+
+-- ---- at a host, where a packet comes for a VM
+
+abbrev pub arrival_at : Settings → Flow → Tuple → ℕ → ℕ → Name → Bool → Port → Arrival
+arrival_at s f x i vm by pass port_states.Running = arrivals.Running vm by pass
+arrival_at s f x i vm by pass port_states.Paused = arrivals.Blackout vm
+arrival_at s f x i vm by pass port_states.Arriving = arrivals.Blackout vm
+arrival_at s f x i vm by pass (port_states.Hairpin host entry) = arrivals.Hairpin vm host (end_to s f i (endpoints.Host host))
+arrival_at s f x i vm by pass port_states.Absent =
+    arrivals.Absent vm (gateway_of s.gateways x) (end_to s f i (endpoints.Redirect (gateway_of s.gateways x)))
+
+-- by the owner's port at this host
+abbrev pub arrival_of : Settings → Flow → List (List Port) → ℕ → Tuple → ℕ → Landing → Arrival
+arrival_of s f ports here x i landings.NoOwner = arrivals.NoOwner
+arrival_of s f ports here x i (landings.Owned vm by pass) = arrival_at s f x i vm by pass (port_at ports here vm)
+
+abbrev pub parcels_arrived : Settings → List (List ParcelView) → ParcelView → Arrival → List (List ParcelView)
+parcels_arrived s parcels p (arrivals.Hairpin vm host end) = parcels_after parcels (queue_to s (endpoints.Host host)) p end
+parcels_arrived s parcels p (arrivals.Absent vm gateway end) = parcels_after parcels (queue_to s (endpoints.Redirect gateway)) p end
+parcels_arrived s parcels p _ = parcels
+
+-- where a hairpin leads is there
+abbrev pub LeadsPort : Settings → Port → Type 0
+LeadsPort s (port_states.Hairpin host entry) = host < s.hosts
+LeadsPort s _ = Unit {0}
+
+abbrev pub LeadsLanding : Settings → List (List Port) → ℕ → Landing → Type 0
+LeadsLanding s ports here (landings.Owned vm by pass) = LeadsPort s (port_at ports here vm)
+LeadsLanding s ports here landings.NoOwner = Unit {0}
+
+-- the policy's word
+abbrev pub landing_said : Plan → State → Actor → ℕ → ℕ → Landing
+landing_said plan s a i at = landing (entries_at plan s a at) (carried_at s i).net (tuple_at plan i)
+
+-- what a host worker's decision of such a packet does
+abbrev pub ingress_event : Plan → State → Actor → ℕ → ℕ → Way → Event
+ingress_event plan s a i at way =
+    Ingress a i at way (arrival_of plan.settings s.flow s.ports (host_of (node_of a)) (tuple_at plan i) i (landing_said plan s a i at))
+
+-- the host worker has the packet in hand, and the decision is the policy's at a number that lies between what was installed
+-- at the take and what is announced
+pub record MaySettleIngress (plan : Plan) (s : State) (a : Actor) (i : ℕ) (d : Decision) : Type 0 where
+  pub decides : Decides plan s a i Wire d.at
+  pub worker : IsWorker a
+  pub said : d.outcome ≡ outcomes.Landing (landing_said plan s a i d.at)
+
+-- the outcome is of a packet that has come for a VM
+abbrev pub IsLanding : Outcome → Type 0
+IsLanding (outcomes.Landing said) = Unit {0}
+IsLanding _ = ⊥

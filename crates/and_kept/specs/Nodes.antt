@@ -1,0 +1,81 @@
+-- A node's programme, and all nodes', as contracts see them.
+use Rattle.std.specs.Prelude.{◌≡◌, ℕ, ◌+◌, ◌-◌, ◌<◌, ◌≤◌, ◌^◌, ◌==◌, not, Bool, List, [], ◌∷◌, ◌++◌, length, map, Option, None, slice_index_or}
+use Rattle.std.specs.List.{All, count_by}
+use Rattle.and_policy.specs.declared.entry.Entry.{Entry}
+use Rattle.and_policy.specs.declared.entry.Op.{Op}
+use Rattle.and_policy.specs.declared.entry.Op.TheVariants as ops
+use Rattle.and_policy.specs.Owners.{place}
+use Rattle.and_policy.specs.Programmes.{entries, prefix}
+use Rattle.and_events.specs.Programming.{Programmes}
+use Rattle.and_events.specs.Legal.{added_at}
+
+-- ---- one node
+
+-- a programme, how much of it is announced and installed, and how many operations it has room for
+pub record Programmed : Type 0 where
+  pub ops : List Op
+  pub announced : ℕ
+  pub installed : ℕ
+  pub limit : ℕ
+
+-- with an entry more at its end
+abbrev pub with_entry : Entry → Programmed → Programmed
+with_entry e n = record n { ops = n.ops ++ ops.Entry e ∷ [] }
+
+-- not all of it is installed
+abbrev pub is_behind : Programmed → Bool
+is_behind n = not (n.installed == length n.ops)
+
+-- how many of the operations are entries, in all, among the announced and among the installed ones
+pub record CountsEntries (n : Programmed) (all announced installed : ℕ) : Type 0 where
+  pub all_are : all ≡ length (entries n.ops)
+  pub announced_are : announced ≡ length (prefix n.ops n.announced)
+  pub installed_are : installed ≡ length (prefix n.ops n.installed)
+
+-- the installed are announced, the announced are there, and there is room
+pub record IsProgrammed (n : Programmed) (capacity : ℕ) : Type 0 where
+  pub installed : n.installed ≤ n.announced
+  pub announced : n.announced ≤ length n.ops
+  pub within : length n.ops ≤ n.limit
+  pub reserved : n.limit ≤ capacity
+  pub small : n.limit < 2 ^ 32
+
+-- ---- where VMs are
+
+-- by VM: the number of the entry that added it, and the host that it came to last
+pub record HomesView : Type 0 where
+  pub added : List (Option ℕ)
+  pub places : List (Option ℕ)
+
+-- that is what the log says
+pub record IsHomes (h : HomesView) (log : List Entry) : Type 0 where
+  pub same : length h.places ≡ length h.added
+  pub added_are : (vm : ℕ) → vm < length h.added → slice_index_or h.added vm None ≡ added_at log vm
+  pub places_are : (vm : ℕ) → vm < length h.added → slice_index_or h.places vm None ≡ place log vm
+
+-- ---- all nodes
+
+-- the log and the programmes, how many entries the log has room for, and of how many VMs it is kept where they are
+pub record Progressed : Type 0 where
+  pub programmes : Programmes
+  pub limit : ℕ
+  pub vms : ℕ
+
+abbrev pub programmes_of : List Entry → List Programmed → Programmes
+programmes_of log nodes =
+    record { log = log; ops = map (λ n. n.ops) nodes; announced = map (λ n. n.announced) nodes; installed = map (λ n. n.installed) nodes }
+
+abbrev pub no_programme : Programmed
+no_programme = record { ops = []; announced = 0; installed = 0; limit = 0 }
+
+abbrev pub node_at : List Programmed → ℕ → Programmed
+node_at nodes i = slice_index_or nodes i no_programme
+
+-- so many nodes are behind, and each has room for the entries that the log still has room for
+pub record IsProgress (log : List Entry) (nodes : List Programmed) (homes : HomesView) (count limit capacity : ℕ) : Type 0 where
+  pub behind : count ≡ count_by is_behind nodes
+  pub rooms : All (λ n. length n.ops + (limit - length log) ≤ n.limit) nodes
+  pub homes_are : IsHomes homes log
+  pub logged : length log ≤ limit
+  pub reserved : limit ≤ capacity
+  pub small : limit < 2 ^ 32

@@ -1,5 +1,5 @@
 //! A vector that contracts see as its list.
-ghost use Rattle.std.specs.Prelude.{◌≡◌, ◌<◌, ◌++◌, ◌∷◌, [], ◌↔◌, length, slice_get, IsTrue, OnOk, OnErr, OnSome};
+ghost use Rattle.std.specs.Prelude.{◌≡◌, ◌<◌, ◌++◌, ◌∷◌, [], ◌↔◌, drop, length, slice_get, slice_set, IsTrue, OnOk, OnErr, OnSome};
 ghost use Rattle.std.specs.Option.{option_copied};
 
 use and_policy::NoMemory;
@@ -79,6 +79,27 @@ impl<T: Drop> Items<T> {
         match self.items.push(item) {
             Ok(()) => Ok(()),
             Err(_) => Err(NoMemory),
+        }
+    }
+
+    /// Takes the first element away, where there is one.
+    pub fn drop_first(&mut self)
+        ensures { self.new ≡ drop 1 self.old }
+    {
+        if !self.items.is_empty() {
+            let _ = self.items.remove(0);
+        }
+    }
+}
+
+impl<T: Copy> Items<T> {
+    /// Puts an element at a place, from 0. A place past the end changes nothing.
+    #[tactic(auto, using(std::proofs::lemmas::List::set_past))]
+    pub fn set(&mut self, at: usize, item: T)
+        ensures { self.new ≡ slice_set self.old at item }
+    {
+        if at < self.items.len() {
+            self.items[at] = item;
         }
     }
 }

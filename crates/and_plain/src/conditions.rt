@@ -71,7 +71,7 @@ fn count_entries(ops: &[Op]) -> usize
 }
 
 /// How many operations count, where there are not more than these.
-pub(crate) fn clamp(ops: &[Op], count: u32) -> u32
+pub fn clamp(ops: &[Op], count: u32) -> u32
     ensures same { take result ops.now ≡ take count ops.now }
     ensures within { result ≤ length ops.now }
 {

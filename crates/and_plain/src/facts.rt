@@ -7,7 +7,7 @@ use and_events::{Endpoint, Node, Plan};
 use and_policy::{Dest, Tuple};
 
 /// The packet's source VM.
-pub(crate) fn vm_at(plan: &Plan, packet: u32) -> u32
+pub fn vm_at(plan: &Plan, packet: u32) -> u32
     ensures { result ≡ (spec.packet_at plan.now packet).vm }
 {
     match plan.packets.as_slice().get(packet as usize) {
@@ -17,7 +17,7 @@ pub(crate) fn vm_at(plan: &Plan, packet: u32) -> u32
 }
 
 /// What the switch reads of the packet's frame.
-pub(crate) fn tuple_at(plan: &Plan, packet: u32) -> Tuple
+pub fn tuple_at(plan: &Plan, packet: u32) -> Tuple
     ensures { result ≡ spec.tuple_at plan.now packet }
 {
     match plan.packets.as_slice().get(packet as usize) {
@@ -43,7 +43,7 @@ pub(crate) fn frame_len(plan: &Plan, packet: u32) -> usize
 }
 
 /// The network of the packet's source VM.
-pub(crate) fn source_net(plan: &Plan, packet: u32) -> u32
+pub fn source_net(plan: &Plan, packet: u32) -> u32
     ensures { result ≡ spec.source_net plan.now packet }
 {
     match net_of_vm(plan.log.as_slice(), vm_at(plan, packet)) {
@@ -53,7 +53,7 @@ pub(crate) fn source_net(plan: &Plan, packet: u32) -> u32
 }
 
 /// Where a send for an endpoint goes.
-pub(crate) fn node_at(target: Endpoint) -> Node
+pub fn node_at(target: Endpoint) -> Node
     ensures { result ≡ spec.node_at target }
 {
     match target {
@@ -63,7 +63,7 @@ pub(crate) fn node_at(target: Endpoint) -> Node
 }
 
 /// Where a packet that may leave goes.
-pub(crate) fn dest_endpoint(dest: Dest) -> Endpoint
+pub fn dest_endpoint(dest: Dest) -> Endpoint
     ensures { result ≡ spec.dest_endpoint dest }
 {
     match dest {

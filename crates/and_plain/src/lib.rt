@@ -25,8 +25,13 @@ mod steps;
 mod takes;
 mod usage;
 
+pub use conditions::clamp;
 pub use enabled::is_enabled;
 pub use events::{after, state_of};
+pub use facts::{dest_endpoint, node_at, source_net, tuple_at, vm_at};
 pub use legal::is_legal;
+pub use places::{actor_of, capacity_at, hand_count, hand_place, node_count, node_of, queue_place};
+pub use rows::{both, row_at};
 pub use run::first_illegal;
-pub use state::{State, start};
+pub use sends::carried_at;
+pub use state::{State, announced_of, home, installed_of, programme_of, start};

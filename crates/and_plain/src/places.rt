@@ -5,7 +5,7 @@ ghost use Rattle.and_events.specs.Places as spec;
 use and_events::{Actor, Event, Node, Queue, Settings};
 
 /// How many nodes there are.
-pub(crate) fn node_count(s: &Settings) -> usize
+pub fn node_count(s: &Settings) -> usize
     ensures { result ≡ spec.node_count s.now }
 {
     s.hosts as usize + s.gateways as usize
@@ -32,7 +32,7 @@ pub(crate) fn is_node(s: &Settings, node: Node) -> bool
 }
 
 /// The place of a queue; a queue that the node does not have is past all places.
-pub(crate) fn queue_place(s: &Settings, node: Node, queue: Queue) -> usize
+pub fn queue_place(s: &Settings, node: Node, queue: Queue) -> usize
     ensures { result ≡ spec.queue_place s.now node queue }
 {
     let hosts = s.hosts as usize;
@@ -52,7 +52,7 @@ pub(crate) fn queue_count(s: &Settings) -> usize
 }
 
 /// How many packets the queue at a place holds.
-pub(crate) fn capacity_at(s: &Settings, queue: usize) -> u32
+pub fn capacity_at(s: &Settings, queue: usize) -> u32
     ensures { result ≡ spec.capacity_at s.now queue }
 {
     let hosts = s.hosts as usize;
@@ -74,14 +74,14 @@ fn product(a: u32, b: u32) -> usize
 }
 
 /// How many hands there are.
-pub(crate) fn hand_count(s: &Settings) -> usize
+pub fn hand_count(s: &Settings) -> usize
     ensures { result ≡ spec.hand_count s.now }
 {
     product(s.hosts, s.workers) + s.hosts as usize + s.gateways as usize
 }
 
 /// The place of the actor's hand. Actors that take no packets have none: theirs is past all places.
-pub(crate) fn hand_place(s: &Settings, actor: Actor) -> usize
+pub fn hand_place(s: &Settings, actor: Actor) -> usize
     ensures { result ≡ spec.hand_place s.now actor }
 {
     match actor {
@@ -107,7 +107,7 @@ pub(crate) fn is_actor(s: &Settings, actor: Actor) -> bool
 }
 
 /// The node at which an actor works.
-pub(crate) fn node_of(actor: Actor) -> Node
+pub fn node_of(actor: Actor) -> Node
     ensures { result ≡ spec.node_of actor }
 {
     match actor {
@@ -130,7 +130,7 @@ fn installer_of(node: Node) -> Actor
 }
 
 /// Whose event it is.
-pub(crate) fn actor_of(event: &Event) -> Actor
+pub fn actor_of(event: &Event) -> Actor
     ensures { result ≡ spec.actor_of event.now }
 {
     match *event {

@@ -51,7 +51,7 @@ pub(crate) fn pop_at(queues: &mut Vec<Items<u32>>, queue: usize)
 }
 
 /// The list at a place; an empty one where there is none.
-pub(crate) fn row_at<T>(rows: &[Items<T>], at: usize) -> &[T]
+pub fn row_at<T>(rows: &[Items<T>], at: usize) -> &[T]
     ensures { result.now ≡ slice_index_or rows.now at [] }
 {
     match rows.get(at) {
@@ -95,7 +95,7 @@ pub(crate) fn make_rows<T: Copy>(
 }
 
 /// Whether both hold.
-pub(crate) fn both(a: bool, b: bool) -> bool
+pub fn both(a: bool, b: bool) -> bool
     ensures { IsTrue result ↔ (IsTrue a × IsTrue b) }
 {
     a && b

@@ -26,7 +26,7 @@ pub(crate) fn ends_at(plan: &Plan, s: &State, queue: usize, end: End) -> bool
 }
 
 /// What is known of the packet.
-pub(crate) fn carried_at(s: &State, packet: u32) -> Carried
+pub fn carried_at(s: &State, packet: u32) -> Carried
     ensures { result ≡ states.carried_at s.now packet }
 {
     carried_in(&s.flow.carried, packet)

@@ -1,15 +1,17 @@
 //! The state of the system.
 ghost use Rattle.std.specs.Prelude.{◌≡◌, IfOk};
+ghost use Rattle.and_events.specs.Ports as ports;
 ghost use Rattle.and_events.specs.State as spec;
 
 use crate::facts::vm_at;
 use crate::flow::Flow;
 use crate::log::place;
 use crate::places::{hand_count, node_count, node_place, queue_count};
+use crate::ports::port_at;
 use crate::programmes::Programmes;
 use crate::rows::{at_or, filled, make_rows, row_at};
 use crate::usage::Used;
-use and_events::{Carried, Endpoint, Items, Node, Plan};
+use and_events::{Carried, Endpoint, Held, Items, Node, Plan};
 use and_policy::{NoMemory, Op, Port};
 use std::alloc::Global;
 use std::marker::Model;
@@ -46,6 +48,36 @@ impl Model for State {
     ghost Value = { spec.State };
 
     ghost view = { λ s. record { next = s.next; programmes = s.programmes; node_holds = s.node_holds; ports = s.ports.items; flow = s.flow; usage = s.usage.items } };
+}
+
+impl State {
+    /// The number of the step that is due.
+    pub fn next(&self) -> usize
+        ensures { result ≡ self.now.next }
+    {
+        self.next
+    }
+
+    /// The queues, by their places.
+    pub fn queues(&self) -> &[Items<u32>]
+        ensures { result.now ≡ self.now.flow.queues }
+    {
+        &self.flow.queues
+    }
+
+    /// What each actor has in hand, by the hand's place.
+    pub fn hands(&self) -> &[Option<Held>]
+        ensures { result.now ≡ self.now.flow.hands }
+    {
+        &self.flow.hands
+    }
+
+    /// The port of the VM at the host.
+    pub fn port(&self, host: u32, vm: u32) -> Port
+        ensures { result ≡ ports.port_at self.now.ports host vm }
+    {
+        port_at(&self.ports, host as usize, vm as usize)
+    }
 }
 
 #[tactic(auto, unfolding(and_events::specs::State::start))]
@@ -95,28 +127,28 @@ pub fn start(alloc: Global, plan: &Plan) -> Result<State, NoMemory>
 }
 
 /// The node's programme.
-pub(crate) fn programme_of<'a>(plan: &Plan, s: &'a State, node: Node) -> &'a [Op]
+pub fn programme_of<'a>(plan: &Plan, s: &'a State, node: Node) -> &'a [Op]
     ensures { result.now ≡ spec.programme_of plan.now s.now node }
 {
     row_at(&s.programmes.ops, node_place(&plan.settings, node))
 }
 
 /// How long the programme was at the node's last announcement.
-pub(crate) fn announced_of(plan: &Plan, s: &State, node: Node) -> u32
+pub fn announced_of(plan: &Plan, s: &State, node: Node) -> u32
     ensures { result ≡ spec.announced_of plan.now s.now node }
 {
     at_or(&s.programmes.announced, node_place(&plan.settings, node), 0)
 }
 
 /// How much of it is installed.
-pub(crate) fn installed_of(plan: &Plan, s: &State, node: Node) -> u32
+pub fn installed_of(plan: &Plan, s: &State, node: Node) -> u32
     ensures { result ≡ spec.installed_of plan.now s.now node }
 {
     at_or(&s.programmes.installed, node_place(&plan.settings, node), 0)
 }
 
 /// The host where the packet's VM is under the log as it stands.
-pub(crate) fn home(plan: &Plan, s: &State, packet: u32) -> u32
+pub fn home(plan: &Plan, s: &State, packet: u32) -> u32
     ensures { result ≡ spec.home plan.now s.now packet }
 {
     match place(&s.programmes.log, vm_at(plan, packet)) {

@@ -1,0 +1,9 @@
+pub mod Deciding
+pub mod NodeLemmas
+pub mod Over
+pub mod Past
+pub mod Ripe
+pub mod RowLemmas
+pub mod Running
+pub mod Some
+pub mod Stepping

@@ -1,0 +1,5 @@
+pub mod EndLemmas
+pub mod FateLemmas
+pub mod FirstLemmas
+pub mod FreshLemmas
+pub mod OrderLemmas

@@ -1,0 +1,13 @@
+-- What is known of an actor's last take of a packet, one event further.
+use Rattle.std.specs.Prelude.{ℕ, ◌&&◌, ◌==◌, if◌then◌else◌}
+use Rattle.and_events.specs.declared.event.Actor.{Actor}
+use Rattle.and_events.specs.declared.event.Event.{Event}
+use Rattle.and_events.specs.declared.event.Event.TheVariants.{Take}
+use Rattle.and_events.specs.declared.plan.Plan.{Plan}
+use Rattle.and_events.specs.Places.{actor_number, node_of}
+use Rattle.and_events.specs.State.{State, installed_of}
+
+abbrev pub take_by : Plan → State → Actor → ℕ → ℕ → Event → ℕ
+take_by plan s a i before (Take b q j) =
+    if (actor_number plan.settings b == actor_number plan.settings a) && (j == i) then installed_of plan s (node_of b) else before
+take_by plan s a i before _ = before

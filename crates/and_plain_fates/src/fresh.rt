@@ -1,0 +1,144 @@
+//! Whether decisions are no older than what was installed when the packet was taken.
+ghost use Rattle.std.specs.Prelude.{◌≡◌, ◌↔◌, ◌≤◌, ◌==◌, IsTrue, IfOk};
+ghost use Rattle.and_events.specs.Fresh as spec;
+ghost use Rattle.and_events.specs.Places as places;
+ghost use Rattle.and_events.specs.State as states;
+ghost use Rattle.and_plain.specs.History.{history};
+ghost use Rattle.and_plain_fates.specs.Takes.{take_by};
+
+use crate::first::{actor_number, implies};
+use and_events::{Actor, Event, Plan};
+use and_plain::{State, after, announced_of, both, installed_of, node_of, start};
+use and_policy::NoMemory;
+use std::alloc::Global;
+
+// What the actor's node had installed at its last take of the packet, one event further.
+fn take_after(plan: &Plan, s: &State, actor: Actor, packet: u32, before: u32, event: &Event) -> u32
+    ensures { result ≡ take_by plan.now s.now actor packet before event.now }
+{
+    match *event {
+        Event::Take {
+            actor: taker,
+            packet: taken,
+            ..
+        } => {
+            let same = actor_number(&plan.settings, taker) == actor_number(&plan.settings, actor);
+            if same && taken == packet {
+                installed_of(plan, s, node_of(taker))
+            } else {
+                before
+            }
+        }
+        _ => before,
+    }
+}
+
+/// What the actor's node had installed just before its last take of the packet; 0 where it took it never.
+pub fn last_take(
+    alloc: Global,
+    plan: &Plan,
+    events: &[Event],
+    actor: Actor,
+    packet: u32,
+) -> Result<u32, NoMemory>
+    ensures ok { IfOk result (λ least. least ≡ spec.last_take plan.now (history events.now) actor packet) }
+{
+    let mut s = start(alloc, plan)?;
+    let mut least = 0;
+    for (n, event) in events.iter().enumerate() {
+        least = take_after(plan, &s, actor, packet, least, event);
+        after(alloc, plan, &mut s, event)?;
+    }
+    Ok(least)
+}
+
+// Whether the number is at least this one, and announced at the actor's node.
+fn is_within(plan: &Plan, s: &State, actor: Actor, least: u32, at: u32) -> bool
+    ensures { IsTrue result ↔ ((least ≤ at) × (at ≤ states.announced_of plan.now s.now (places.node_of actor))) }
+{
+    least <= at && at <= announced_of(plan, s, node_of(actor))
+}
+
+// Whether the packets are the same.
+fn is_same(a: u32, b: u32) -> bool
+    ensures { result ≡ (a == b) }
+{
+    a == b
+}
+
+// Whether the actor's decision of `decided` at this number is fresh, where that is the packet.
+fn is_fresh_at(
+    alloc: Global,
+    plan: &Plan,
+    s: &State,
+    earlier: &[Event],
+    actor: Actor,
+    decided: u32,
+    at: u32,
+    packet: u32,
+) -> Result<bool, NoMemory>
+    requires { s.now ≡ states.state plan.now (history earlier.now) }
+    ensures ok { IfOk result (λ yes. IsTrue yes ↔ (IsTrue (decided == packet) → spec.FreshAt plan.now (history earlier.now) actor packet at)) }
+{
+    let least = last_take(alloc, plan, earlier, actor, packet)?;
+    let within = is_within(plan, s, actor, least, at);
+    let same = is_same(decided, packet);
+    let fresh = implies(same, within);
+    Ok(fresh)
+}
+
+// Whether the event, after the earlier ones, is no decision about the packet that is not fresh.
+fn is_fresh_by(
+    alloc: Global,
+    plan: &Plan,
+    s: &State,
+    earlier: &[Event],
+    event: &Event,
+    packet: u32,
+) -> Result<bool, NoMemory>
+    requires { s.now ≡ states.state plan.now (history earlier.now) }
+    ensures ok { IfOk result (λ yes. IsTrue yes ↔ spec.FreshBy plan.now (history earlier.now) packet (spec.decision_of event.now)) }
+{
+    match *event {
+        Event::Egress {
+            actor,
+            packet: decided,
+            at,
+            ..
+        }
+        | Event::Route {
+            actor,
+            packet: decided,
+            at,
+            ..
+        }
+        | Event::Redirect {
+            actor,
+            packet: decided,
+            at,
+            ..
+        }
+        | Event::Ingress {
+            actor,
+            packet: decided,
+            at,
+            ..
+        } => is_fresh_at(alloc, plan, s, earlier, actor, decided, at, packet),
+        _ => Ok(true),
+    }
+}
+
+/// Whether every decision about the packet is no older than what was installed when it was taken, and was announced before.
+/// The oldest event comes first.
+pub fn is_fresh(alloc: Global, plan: &Plan, events: &[Event], packet: u32) -> Result<bool, NoMemory>
+    ensures ok { IfOk result (λ yes. IsTrue yes ↔ spec.Fresh plan.now (history events.now) packet) }
+{
+    let mut s = start(alloc, plan)?;
+    let mut fresh = true;
+    for (n, event) in events.iter().enumerate() {
+        let here = is_fresh_by(alloc, plan, &s, &events[..n], event, packet)?;
+        fresh = both(fresh, here);
+        after(alloc, plan, &mut s, event)?;
+    }
+    Ok(fresh)
+}

@@ -1,0 +1,19 @@
+//! What a list of events says of each packet, and whether it is a whole run in the plain order: a plain program.
+//!
+//! Each function computes the definition of its name over a list of events, the oldest of which is first, slowly and
+//! exactly: a packet's fates and places, whether its decisions are fresh, whether the list is complete, and whether at each
+//! event the first of the enabled actors acted. It stands on the definitions of `and_events` and on the states of `and_plain`.
+#![tactic(auto)]
+
+mod complete;
+mod fate;
+mod first;
+mod fresh;
+mod order;
+mod placed;
+
+pub use complete::is_complete;
+pub use fate::{fate_of, fates};
+pub use fresh::{is_fresh, last_take};
+pub use order::is_in_plain_order;
+pub use placed::places;

@@ -11,7 +11,7 @@ use crate::directs::directs;
 use crate::drops::put_stage;
 use crate::fate::{Fate, Stage};
 use crate::lists::{put_items, put_vms};
-use crate::rows::{Row, put, put_rows, put_some_rows, row};
+use crate::rows::{Row, count_row, put, put_rows, put_some_rows};
 use crate::skips;
 use and_events::{Plan, SkipReason};
 use and_policy::NoMemory;
@@ -24,24 +24,24 @@ fn head_rows(plan: &Plan, fates: &[Fate], c: Counts) -> [Row; 18]
     ensures { map row_view result ≡ report.head_rows plan.now (tally_of fates.now) }
 {
     [
-        row("frames", plan.frames as u64),
-        row("skipped", plan.skipped.len() as u64),
-        row("unsent", plan.unsent as u64),
-        row("injected", plan.packets.len() as u64),
-        row("delivered", c.delivered),
-        row("dropped", c.dropped),
-        row("lost blackout", c.in_blackout),
-        row("lost queue", c.at_full_queue),
-        row("lost hops", c.out_of_hops),
-        row("sends", c.sends),
-        row("offload", 0),
-        row("hover", c.hovers),
-        row("hairpin", 0),
-        row("redirect", 0),
-        row("fast", 0),
-        row("slow", c.slow),
-        row("orders", 0),
-        row("refused", plan.refused.len() as u64),
+        count_row("frames", plan.frames as u64),
+        count_row("skipped", plan.skipped.len() as u64),
+        count_row("unsent", plan.unsent as u64),
+        count_row("injected", plan.packets.len() as u64),
+        count_row("delivered", c.delivered),
+        count_row("dropped", c.dropped),
+        count_row("lost blackout", c.in_blackout),
+        count_row("lost queue", c.at_full_queue),
+        count_row("lost hops", c.out_of_hops),
+        count_row("sends", c.sends),
+        count_row("offload", 0),
+        count_row("hover", c.hovers),
+        count_row("hairpin", 0),
+        count_row("redirect", 0),
+        count_row("fast", 0),
+        count_row("slow", c.slow),
+        count_row("orders", 0),
+        count_row("refused", plan.refused.len() as u64),
     ]
 }
 
@@ -51,14 +51,14 @@ fn skip_rows(skipped: &[(u32, SkipReason)]) -> [Row; 8]
     ensures { map row_view result ≡ report.skip_rows skipped.now }
 {
     [
-        row("skip TooLong", skips::too_long(skipped) as u64),
-        row("skip Short", skips::short(skipped) as u64),
-        row("skip NotIp4", skips::not_ip4(skipped) as u64),
-        row("skip Cut", skips::cut(skipped) as u64),
-        row("skip BadIp4", skips::bad_ip4(skipped) as u64),
-        row("skip ShortPorts", skips::short_ports(skipped) as u64),
-        row("skip NoSource", skips::no_source(skipped) as u64),
-        row("skip PausedSource", skips::paused_source(skipped) as u64),
+        count_row("skip TooLong", skips::too_long(skipped) as u64),
+        count_row("skip Short", skips::short(skipped) as u64),
+        count_row("skip NotIp4", skips::not_ip4(skipped) as u64),
+        count_row("skip Cut", skips::cut(skipped) as u64),
+        count_row("skip BadIp4", skips::bad_ip4(skipped) as u64),
+        count_row("skip ShortPorts", skips::short_ports(skipped) as u64),
+        count_row("skip NoSource", skips::no_source(skipped) as u64),
+        count_row("skip PausedSource", skips::paused_source(skipped) as u64),
     ]
 }
 
@@ -70,9 +70,9 @@ fn drop_rows(fates: &[Fate], c: Counts) -> [Row; 3]
 {
     let _fates = fates;
     [
-        row("drop spoofed", c.spoofed),
-        row("drop novm", c.novm),
-        row("drop noowner", c.noowner),
+        count_row("drop spoofed", c.spoofed),
+        count_row("drop novm", c.novm),
+        count_row("drop noowner", c.noowner),
     ]
 }
 

@@ -14,7 +14,7 @@ pub(crate) struct Row {
 }
 
 /// The row of this name and count.
-pub(crate) fn row(name: &'static str, count: u64) -> Row
+pub(crate) fn count_row(name: &'static str, count: u64) -> Row
     ensures { row_view result ≡ report.row name.now count }
 {
     Row { name, count }

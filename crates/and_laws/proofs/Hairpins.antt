@@ -64,7 +64,7 @@ row_within ports host vm some =
     ⊎_elim (λ (l : vm < length ports). l)
     (λ (l : length ports ≤ vm). absurd (omega (arith, some, ap (λ row. pin (get_or row host Absent)) (get_or_past ports vm none l)))) (cases_lt vm (length ports))
 
-unpin : (ports : List (List Port)) (host vm : ℕ) → pin (port_at ports host vm) ≡ 1 → hairpins (with_port ports host vm Absent) + 1 ≡ hairpins ports
+pub unpin : (ports : List (List Port)) (host vm : ℕ) → pin (port_at ports host vm) ≡ 1 → hairpins (with_port ports host vm Absent) + 1 ≡ hairpins ports
 unpin ports host vm some =
     let row = ports_of ports vm in
     let none : List Port = [] in

@@ -42,3 +42,6 @@ pub mod Hosted
 pub mod Leads
 pub mod PinnedTo
 pub mod Hands
+pub mod Enabling
+pub mod GoingOn
+pub mod Unstuck

@@ -71,7 +71,7 @@ node_within s (Gate g) is = omega arith
 raised : (xs : List ℕ) (n upto : ℕ) → n < length xs → get_or xs n 0 < upto → sum xs + 1 ≤ sum (set xs n upto)
 raised xs n upto there more = omega (arith, sum_by-set (λ x. x) xs n upto 0 there, more)
 
-made_by_entry : (e : Entry) → made (ports_move_of_entry e) ≡ 0
+pub made_by_entry : (e : Entry) → made (ports_move_of_entry e) ≡ 0
 made_by_entry (entries.AddVm vm net mac ip host) = refl
 made_by_entry (entries.RemoveVm vm) = refl
 made_by_entry e = refl
@@ -135,7 +135,7 @@ entry_takes ports (entries.AddVm vm net mac ip host) = tt
 entry_takes ports (entries.RemoveVm vm) = tt
 entry_takes ports e = tt
 
-takes_pin : (plan : Plan) (s : State) (e : Event) → Legal plan s e → IsTaken s.ports (ports_move_of plan s e)
+pub takes_pin : (plan : Plan) (s : State) (e : Event) → Legal plan s e → IsTaken s.ports (ports_move_of plan s e)
 unfolding Legal ports_move_of
 takes_pin plan s (Append n) (entry, (is, told, can)) = rw told (entry_takes s.ports entry)
 takes_pin plan s (Blackout n) (vm, host, (is, told, can)) = rw told tt
@@ -145,7 +145,7 @@ takes_pin plan s _ l = tt
 
 -- ---- runs
 
-no_pins : (names hosts : ℕ) → hairpins (replicate names (replicate hosts port_states.Absent)) ≡ 0
+pub no_pins : (names hosts : ℕ) → hairpins (replicate names (replicate hosts port_states.Absent)) ≡ 0
 no_pins names hosts =
     let row = replicate hosts port_states.Absent in
     let none : pins row ≡ 0 = omega (arith, sum_by-replicate pin hosts port_states.Absent) in

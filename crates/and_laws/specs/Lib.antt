@@ -9,3 +9,4 @@ pub mod Offloads
 pub mod Ends
 pub mod Targets
 pub mod Stages
+pub mod Progress

@@ -40,6 +40,7 @@ mod limits;
 mod packets;
 mod ports;
 mod programmes;
+mod progress;
 mod targets;
 
 pub use ends::{all_done_at_the_end, one_fate_at_the_end};
@@ -50,4 +51,5 @@ pub use limits::{hops_add_up, losses_are_due, queues_are_within_capacity};
 pub use packets::{all_accounted, one_fate_or_place};
 pub use ports::{live_vms_run_once, ports_follow_the_steps};
 pub use programmes::programmes_follow_the_log;
+pub use progress::runs_go_on;
 pub use targets::packets_go_to_nodes;

@@ -1,0 +1,193 @@
+-- Where nothing is held, the condition of a step holds or an actor is enabled.
+use Rattle.std.proofs.Common.{◌≡◌, ℕ, suc, ◌+◌, ◌-◌, ◌*◌, ◌<◌, ◌≤◌, Bool, true, false, ◌||◌, cond, List, [], ◌∷◌, length, refl, sym, ap, ◌∙◌, subst, arith, Option, Some, None, ⊎_elim, inl, inr, ◌⊎◌}
+use Rattle.std.specs.Prelude.{◌==◌, option_map}
+use Rattle.std.specs.List.{All, list_any, find, position_from}
+use Rattle.std.proofs.lemmas.List.{get_or_default, take_all}
+use Rattle.std.proofs.lemmas.Iterator.Adapters.{position_from-zero}
+use Rattle.std.proofs.lemmas.Bool.{cases_lt}
+use Rattle.std.proofs.lemmas.Grind.{common_steps}
+use Rattle.and_policy.specs.declared.entry.Entry.{Entry}
+use Rattle.and_policy.specs.declared.entry.Entry.TheVariants as entry_kinds
+use Rattle.and_policy.specs.declared.port.Port.{Port}
+use Rattle.and_policy.specs.Logs.{Vm, added, is_live}
+use Rattle.and_policy.specs.Programmes.{entries, prefix}
+use Rattle.and_events.specs.declared.event.Event.{Event}
+use Rattle.and_events.specs.declared.event.Node.{Node}
+use Rattle.and_events.specs.declared.event.Node.TheVariants.{Host, Gate}
+use Rattle.and_events.specs.declared.event.Queue.{Queue}
+use Rattle.and_events.specs.declared.event.Queue.TheVariants.{Out, Wire, Seal}
+use Rattle.and_events.specs.declared.plan.Settings.{Settings}
+use Rattle.and_events.specs.declared.plan.Plan.{Plan}
+use Rattle.and_events.specs.Places.{queue_place, queue_count, IsNode, HasQueue}
+use Rattle.and_events.specs.Flow.{queue_at, hand_at}
+use Rattle.and_events.specs.Ports.{port_at, IsHairpin}
+use Rattle.and_events.specs.State.{State, state, programme_of, installed_of}
+use Rattle.and_events.specs.Legal.{IsAtRest, IsOver, KnowsVm, adds, added_at, install_held, forward_held}
+use Rattle.and_events.specs.Run.{Run}
+use Rattle.and_events.specs.Sound.{IsSound}
+use Rattle.and_laws.specs.LivePorts.{FitsPorts}
+use Rattle.and_laws.specs.Progress.{GoesOn}
+use Rattle.and_laws.proofs.Sizes.{sizes}
+use Rattle.and_laws.proofs.Lives.{not_added}
+use Rattle.and_laws.proofs.Programmed.{programmed}
+use Rattle.and_laws.proofs.Queues.{queue_within}
+use Rattle.and_laws.proofs.Enabling.{search_below, search_nodes, hands_or, queue_or, install_or}
+
+-- ---- at rest, and over
+
+-- nothing is held at a node
+pub record AreFree (plan : Plan) (s : State) : Type 0 where
+  pub install : (node : Node) → install_held plan s node ≡ false
+  pub forward : (node : Node) → forward_held plan s node ≡ false
+
+record QueueOf (s : Settings) (k : ℕ) : Type 0 where
+  pub node : Node
+  pub queue : Queue
+  pub is : IsNode s node
+  pub has : HasQueue node queue
+  pub place : queue_place s node queue ≡ k
+
+queue_of : (s : Settings) (k : ℕ) → k < queue_count s → QueueOf s k
+queue_of s k l =
+    ⊎_elim (λ (m : k < s.hosts). record { node = Host k; queue = Out; is = m; has = tt; place = refl })
+    (λ (m : s.hosts ≤ k).
+    ⊎_elim (λ (n : k < 2 * s.hosts). record { node = Host (k - s.hosts); queue = Seal; is = omega (arith, m, n); has = tt; place = omega (arith, m) })
+    (λ (n : 2 * s.hosts ≤ k).
+    ⊎_elim (λ (o : k < 3 * s.hosts). record { node = Host (k - 2 * s.hosts); queue = Wire; is = omega (arith, n, o); has = tt; place = omega (arith, n) })
+    (λ (o : 3 * s.hosts ≤ k). record { node = Gate (k - 3 * s.hosts); queue = Wire; is = omega (arith, l, o); has = tt; place = omega (arith, o) })
+    (cases_lt k (3 * s.hosts)))
+    (cases_lt k (2 * s.hosts)))
+    (cases_lt k s.hosts)
+
+module _ (plan : Plan) (h : List Event) (sound : IsSound plan) (r : Run plan h) (free : AreFree plan (state plan h)) where
+  abbrev Goes : Type 0
+  Goes = GoesOn plan (state plan h)
+
+  IsInstalledAt : Node → Type 0
+  IsInstalledAt node = installed_of plan (state plan h) node ≡ length (programme_of plan (state plan h) node)
+
+  all_installed : ((node : Node) → IsNode plan.settings node → IsInstalledAt node) ⊎ Goes
+  unfolding IsInstalledAt
+  all_installed = search_nodes plan.settings IsInstalledAt (λ node is. install_or plan h r node is (free.install node))
+
+  some_workers : 0 < plan.settings.workers
+  some_workers = omega (arith, sound.settings.workers.0)
+
+  empty_at : ((k : ℕ) → hand_at (state plan h).flow.hands k ≡ None) → (k : ℕ) → k < queue_count plan.settings → (queue_at (state plan h).flow.queues k ≡ []) ⊎ Goes
+  empty_at none k l =
+      let q = queue_of plan.settings k l in
+      subst (λ p. (queue_at (state plan h).flow.queues p ≡ []) ⊎ Goes) q.place
+      (queue_or plan (state plan h) some_workers none q.node q.queue q.is q.has (free.forward q.node))
+
+  all_empty : ((k : ℕ) → hand_at (state plan h).flow.hands k ≡ None) → ((k : ℕ) → k < queue_count plan.settings → queue_at (state plan h).flow.queues k ≡ []) ⊎ Goes
+  all_empty none = search_below (queue_count plan.settings) (λ k. queue_at (state plan h).flow.queues k ≡ []) (empty_at none)
+
+  no_hands : ((k : ℕ) → hand_at (state plan h).flow.hands k ≡ None) → All (λ o. o ≡ None) (state plan h).flow.hands
+  no_hands none k d l = get_or_default (state plan h).flow.hands k d None l ∙ none k
+
+  -- nothing is left to do but for hairpins, or an actor is enabled
+  pub over_or : ((host vm : ℕ) → IsHairpin (port_at (state plan h).ports host vm) → ⊥) → IsOver plan (state plan h) ⊎ Goes
+  unfolding IsInstalledAt
+  over_or no_pins =
+      ⊎_elim
+      (λ (installed : (node : Node) → IsNode plan.settings node → IsInstalledAt node).
+      ⊎_elim
+      (λ (none : (k : ℕ) → hand_at (state plan h).flow.hands k ≡ None).
+      ⊎_elim
+      (λ (empty : (k : ℕ) → k < queue_count plan.settings → queue_at (state plan h).flow.queues k ≡ []).
+      inl (record {
+        queues = λ k d l.
+            let nothing : List ℕ = [] in
+            get_or_default (state plan h).flow.queues k d nothing l ∙ empty k (omega (arith, l, (sizes plan h).queues));
+        hands = no_hands none;
+        installed = installed;
+        hairpins = no_pins;
+      }))
+      (λ (g : Goes). inr g) (all_empty none))
+      (λ (g : Goes). inr g) (hands_or plan (state plan h) (sizes plan h).hands))
+      (λ (g : Goes). inr g) all_installed
+
+  -- the condition of `wait` holds, or an actor is enabled
+  pub rest_or : IsAtRest plan (state plan h) ⊎ Goes
+  unfolding IsInstalledAt
+  rest_or =
+      ⊎_elim
+      (λ (installed : (node : Node) → IsNode plan.settings node → IsInstalledAt node).
+      ⊎_elim
+      (λ (none : (k : ℕ) → hand_at (state plan h).flow.hands k ≡ None).
+      ⊎_elim
+      (λ (empty : (k : ℕ) → k < queue_count plan.settings → queue_at (state plan h).flow.queues k ≡ []).
+      inl (record {
+        installed = λ node is unheld. installed node is;
+        hands = no_hands none;
+        queues = λ node q is has unheld. empty (queue_place plan.settings node q) (queue_within plan.settings node q is has);
+      }))
+      (λ (g : Goes). inr g) (all_empty none))
+      (λ (g : Goes). inr g) (hands_or plan (state plan h) (sizes plan h).hands))
+      (λ (g : Goes). inr g) all_installed
+
+  -- ---- VMs that a host knows
+
+  -- the host has the log installed, so it knows every VM that was added
+  pub knows_or : (host vm q : ℕ) → host < plan.settings.hosts → added_at (state plan h).programmes.log vm ≡ Some q → q ≤ length (state plan h).programmes.log → KnowsVm plan (state plan h) host vm ⊎ Goes
+  knows_or host vm q is_host is within =
+      let s = state plan h in
+      let p = programme_of plan s (Host host) in
+      ⊎_elim
+      (λ (installed : installed_of plan s (Host host) ≡ length p).
+      let whole : prefix p (installed_of plan s (Host host)) ≡ s.programmes.log =
+      ap (prefix p) installed ∙ ap entries (take_all (length p) p (omega arith)) ∙ (programmed plan h r (Host host) is_host).log in
+      inl (q, is, is_host, omega (arith, within, ap (length {A = Entry}) whole)))
+      (λ (g : Goes). inr g) (install_or plan h r (Host host) is_host (free.install (Host host)))
+
+-- ---- a live VM was added
+
+found_from : (t : Entry → Bool) (xs : List Entry) (i : ℕ) → list_any t xs ≡ true → (j : ℕ) × (position_from t i xs ≡ Some j) × (j < i + length xs)
+found_from t [] i e = absurd (let no_way : false ≡ true = e in cc)
+found_from t (x ∷ xs) i e = step (t x) e (λ f. found_from t xs (i + 1) f)
+  where
+    step : (b : Bool) → (b || list_any t xs) ≡ true → (list_any t xs ≡ true → (j : ℕ) × (position_from t (i + 1) xs ≡ Some j) × (j < i + 1 + length xs)) → (j : ℕ) × (cond b (Some i) (position_from t (i + 1) xs) ≡ Some j) × (j < i + suc (length xs))
+    step true f later = (i, refl, omega arith)
+    step false f later = let l = later f in (l.0, l.1, omega (arith, l.2))
+
+adds_any : (vm : ℕ) (k : List Entry) → list_any (adds vm) k ≡ list_any (λ v. v.number == vm) (added k)
+adds_any vm [] = refl
+adds_any vm (entry_kinds.AddVm v net mac ip host ∷ k) = ap (λ b. (v == vm) || b) (adds_any vm k)
+adds_any vm (_ ∷ k) = adds_any vm k
+
+live_is_added : (k : List Entry) (vm : ℕ) (b : Bool) → list_any (λ v. v.number == vm) (added k) ≡ b → is_live k vm ≡ true → b ≡ true
+live_is_added k vm true e live = refl
+live_is_added k vm false e live = absurd (let no_way : false ≡ true = sym (not_added k vm e) ∙ live in cc)
+
+-- a live VM's entry has its number in the log
+pub record NumberOf (k : List Entry) (vm : ℕ) : Type 0 where
+  pub number : ℕ
+  pub is : added_at k vm ≡ Some number
+  pub within : number ≤ length k
+
+pub number_of : (k : List Entry) (vm : ℕ) → is_live k vm ≡ true → NumberOf k vm
+number_of k vm live =
+    let any : list_any (adds vm) k ≡ true = adds_any vm k ∙ live_is_added k vm (list_any (λ v. v.number == vm) (added k)) refl live in
+    let found = found_from (adds vm) k 0 any in
+    record { number = suc found.0; is = ap (option_map suc) (position_from-zero (adds vm) k ∙ found.1); within = omega (arith, found.2) }
+
+pub find_live : (q : Vm → Bool) (xs : List Vm) (x : Vm) → find q xs ≡ Some x → list_any (λ v. v.number == x.number) xs ≡ true
+find_live q [] x e = absurd (let nothing : None ≡ Some x = e in cc)
+find_live q (y ∷ xs) x e = step (q y) e (λ f. find_live q xs x f)
+  where
+    or_last : (a b : Bool) → b ≡ true → (a || b) ≡ true
+    or_last true b e = refl
+    or_last false b e = e
+
+    same_number : y ≡ x → (y.number == x.number) ≡ true
+    same_number e = let n : y.number ≡ x.number = ap (λ (v : Vm). v.number) e in grind (arith, common_steps)
+
+    step : (b : Bool) → cond b (Some y) (find q xs) ≡ Some x → (find q xs ≡ Some x → list_any (λ v. v.number == x.number) xs ≡ true) → ((y.number == x.number) || list_any (λ v. v.number == x.number) xs) ≡ true
+    step true f later = let e : y ≡ x = cc in let n = same_number e in rw n
+    step false f later = or_last (y.number == x.number) (list_any (λ v. v.number == x.number) xs) (later f)
+
+pub home_of : (hosts : ℕ) (b : Bool) (at to : Option ℕ) (ports : List Port) → b ≡ true → FitsPorts hosts b at to ports → (host : ℕ) × (at ≡ Some host) × (host < hosts)
+home_of hosts true None to ports e f = absurd f
+home_of hosts true (Some host) None ports e f = (host, refl, f.0)
+home_of hosts true (Some host) (Some to) ports e f = (host, refl, f.0)
+home_of hosts false at to ports e f = absurd (let no_way : false ≡ true = e in cc)

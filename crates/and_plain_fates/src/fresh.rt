@@ -1,5 +1,5 @@
 //! Whether decisions are no older than what was installed when the packet was taken.
-ghost use Rattle.std.specs.Prelude.{◌≡◌, ◌↔◌, ◌≤◌, ◌==◌, IsTrue, IfOk};
+ghost use Rattle.std.specs.Prelude.{◌≡◌, ◌↔◌, ◌≤◌, ◌==◌, ℕ, Some, IsTrue, IfOk};
 ghost use Rattle.and_events.specs.Fresh as spec;
 ghost use Rattle.and_events.specs.Places as places;
 ghost use Rattle.and_events.specs.State as states;
@@ -13,7 +13,14 @@ use and_policy::NoMemory;
 use std::alloc::Global;
 
 // What the actor's node had installed at its last take of the packet, one event further.
-fn take_after(plan: &Plan, s: &State, actor: Actor, packet: u32, before: u32, event: &Event) -> u32
+fn take_after(
+    plan: &Plan,
+    s: &State,
+    actor: Actor,
+    packet: u32,
+    before: Option<u32>,
+    event: &Event,
+) -> Option<u32>
     ensures { result ≡ take_by plan.now s.now actor packet before event.now }
 {
     match *event {
@@ -24,7 +31,7 @@ fn take_after(plan: &Plan, s: &State, actor: Actor, packet: u32, before: u32, ev
         } => {
             let same = actor_number(&plan.settings, taker) == actor_number(&plan.settings, actor);
             if same && taken == packet {
-                installed_of(plan, s, node_of(taker))
+                Some(installed_of(plan, s, node_of(actor)))
             } else {
                 before
             }
@@ -33,30 +40,41 @@ fn take_after(plan: &Plan, s: &State, actor: Actor, packet: u32, before: u32, ev
     }
 }
 
-/// What the actor's node had installed just before its last take of the packet; 0 where it took it never.
-pub fn last_take(
+/// What the actor's node had installed just before the actor's last take of the packet; none where it never took it.
+/// The oldest event comes first.
+pub fn installed_at_take(
     alloc: Global,
     plan: &Plan,
     events: &[Event],
     actor: Actor,
     packet: u32,
-) -> Result<u32, NoMemory>
-    ensures ok { IfOk result (λ least. least ≡ spec.last_take plan.now (history events.now) actor packet) }
+) -> Result<Option<u32>, NoMemory>
+    ensures ok { IfOk result (λ taken. taken ≡ spec.installed_at_take plan.now (history events.now) actor packet) }
 {
     let mut s = start(alloc, plan)?;
-    let mut least = 0;
+    let mut taken = None;
     for (n, event) in events.iter().enumerate() {
-        least = take_after(plan, &s, actor, packet, least, event);
+        taken = take_after(plan, &s, actor, packet, taken, event);
         after(alloc, plan, &mut s, event)?;
     }
-    Ok(least)
+    Ok(taken)
 }
 
-// Whether the number is at least this one, and announced at the actor's node.
-fn is_within(plan: &Plan, s: &State, actor: Actor, least: u32, at: u32) -> bool
-    ensures { IsTrue result ↔ ((least ≤ at) × (at ≤ states.announced_of plan.now s.now (places.node_of actor))) }
+// Whether the packet was taken, and the number is at least what was installed then.
+fn is_since(taken: Option<u32>, at: u32) -> bool
+    ensures { IsTrue result ↔ ((need : ℕ) × (taken ≡ Some need) × (need ≤ at)) }
 {
-    least <= at && at <= announced_of(plan, s, node_of(actor))
+    match taken {
+        Some(need) => need <= at,
+        None => false,
+    }
+}
+
+// Whether the number is announced at the actor's node.
+fn is_announced(plan: &Plan, s: &State, actor: Actor, at: u32) -> bool
+    ensures { IsTrue result ↔ (at ≤ states.announced_of plan.now s.now (places.node_of actor)) }
+{
+    at <= announced_of(plan, s, node_of(actor))
 }
 
 // Whether the packets are the same.
@@ -80,8 +98,10 @@ fn is_fresh_at(
     requires { s.now ≡ states.state plan.now (history earlier.now) }
     ensures ok { IfOk result (λ yes. IsTrue yes ↔ (IsTrue (decided == packet) → spec.FreshAt plan.now (history earlier.now) actor packet at)) }
 {
-    let least = last_take(alloc, plan, earlier, actor, packet)?;
-    let within = is_within(plan, s, actor, least, at);
+    let taken = installed_at_take(alloc, plan, earlier, actor, packet)?;
+    let since = is_since(taken, at);
+    let announced = is_announced(plan, s, actor, at);
+    let within = both(since, announced);
     let same = is_same(decided, packet);
     let fresh = implies(same, within);
     Ok(fresh)

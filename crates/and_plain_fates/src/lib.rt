@@ -14,6 +14,6 @@ mod placed;
 
 pub use complete::is_complete;
 pub use fate::{fate_of, fates};
-pub use fresh::{is_fresh, last_take};
+pub use fresh::{installed_at_take, is_fresh};
 pub use order::is_in_plain_order;
 pub use placed::places;

@@ -9,3 +9,4 @@ pub mod Leading
 pub mod Settled
 pub mod PlainPorts
 pub mod Arriving
+pub mod TestsLemmas

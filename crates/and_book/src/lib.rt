@@ -12,3 +12,6 @@ mod places;
 mod sending;
 
 pub use book::Book;
+
+#[cfg(test)]
+mod tests;

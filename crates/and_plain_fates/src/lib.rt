@@ -21,3 +21,6 @@ pub use fresh::{is_fresh, last_take};
 pub use order::is_in_plain_order;
 pub use placed::places;
 pub use sent::sends;
+
+#[cfg(test)]
+mod tests;

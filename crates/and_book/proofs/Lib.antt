@@ -9,3 +9,6 @@ pub mod Leading
 pub mod Settled
 pub mod PlainPorts
 pub mod Arriving
+pub mod Unsent
+pub mod Departing
+pub mod NetTable

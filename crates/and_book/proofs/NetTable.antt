@@ -3,7 +3,7 @@ use Rattle.std.proofs.Common.{◌≡◌, ℕ, zero, suc, ◌+◌, ◌-◌, ◌<�
 use Rattle.std.specs.List.{All}
 use Rattle.std.proofs.lemmas.Bool.{eqb-true}
 use Rattle.std.proofs.lemmas.Grind.{get_or-set_at, common_steps}
-use Rattle.std.proofs.lemmas.List.{drop_more}
+use Rattle.std.proofs.lemmas.List.{drop_more, length-set}
 use Rattle.std.proofs.lemmas.List.Elements.{All-nil, All-cons, All-head, All-tail}
 use Rattle.and_policy.specs.declared.entry.Entry.{Entry}
 use Rattle.and_policy.specs.declared.entry.Entry.TheVariants.{AddNet, AddVm, RemoveVm, Place, AddRule, DelRule, AddRoute, DelRoute, Tick}
@@ -69,3 +69,12 @@ all_below plan (e ∷ k) known =
 -- the VMs that the plan's log adds have names
 pub adds_below : (plan : Plan) → IsSound plan → IsBuilt plan → All (AddsBelow (length plan.names)) plan.log
 adds_below plan sound built = all_below plan plan.log (known_plan plan sound built)
+
+-- so has each of its entries
+pub below_at : (vms : ℕ) (log : List Entry) (at : ℕ) (d : Entry) → at < length log → All (AddsBelow vms) log → AddsBelow vms (get_or log at d)
+below_at vms log at d there all = all at d there
+
+-- a write keeps the size
+pub same_size : (nets : List ℕ) (e : Entry) → length (with_net nets e) ≡ length nets
+same_size nets (AddVm v net mac ip host) = length-set nets v net
+same_size nets e = refl

@@ -36,7 +36,10 @@ one_more nets k Tick below has vm = has vm
 
 -- ---- from the end of the log on
 
-none_yet : (n vm : ℕ) → get_or (replicate n 0) vm 0 ≡ 0
+abbrev zeros : ℕ → List ℕ
+zeros n = replicate n 0
+
+none_yet : (n vm : ℕ) → get_or (zeros n) vm 0 ≡ 0
 none_yet zero vm = refl
 none_yet (suc n) zero = refl
 none_yet (suc n) (suc vm) = none_yet n vm

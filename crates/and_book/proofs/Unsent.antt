@@ -147,7 +147,8 @@ unfolding Run sends
 unsent plan [] i sound r none = refl
 unsent plan (e ∷ h) i sound r none =
     let before = unsent plan h i sound r.0 (none_before plan h e i none) in
-    let now = ap (λ (b : Bool). cond b 1 0) (sends_not plan h e i sound r.0 r.1 none) in
+    let weight : Bool → ℕ = λ b. cond b 1 0 in
+    let now = ap weight (sends_not plan h e i sound r.0 r.1 none) in
     omega (arith, before, now)
 
 -- ---- what is in hand from `out`

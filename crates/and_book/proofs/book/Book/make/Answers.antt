@@ -10,8 +10,8 @@ use Rattle.and_book.proofs.book.Book.make.Goals as goal
 pub overflow_cast-len : goal.overflow_cast-len
 overflow_cast-len c = let short = log_short c.args.plan c.requires.sound in omega (arith, short, c.len-2.ensures)
 
-pub nets_of-nets-requires : goal.nets_of-nets-requires
-nets_of-nets-requires c = rw (c.as_slice.ensures, c.len-5.ensures) (adds_below c.args.plan c.requires.sound c.requires.built)
+pub nets_of-requires : goal.nets_of-requires
+nets_of-requires c = rw (c.as_slice.ensures, c.len-5.ensures) (adds_below c.args.plan c.requires.sound c.requires.built)
 
 pub invariant_of-result : goal.invariant_of-result
 invariant_of-result c =

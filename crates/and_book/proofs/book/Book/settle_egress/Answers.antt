@@ -7,7 +7,7 @@ use Rattle.and_events.specs.declared.event.Queue.TheVariants.{Out}
 use Rattle.and_events.specs.declared.plan.Plan.{Plan}
 use Rattle.and_events.specs.Places.{hand_place, node_of}
 use Rattle.and_events.specs.Flow.{hand_at}
-use Rattle.and_events.specs.State.{State, state, packet_at, source_net}
+use Rattle.and_events.specs.State.{State, state, carried_at, source_net}
 use Rattle.and_events.specs.Legal.{Legal}
 use Rattle.and_events.specs.Run.{past}
 use Rattle.and_laws.specs.Fates.{in_hand_count}
@@ -88,7 +88,7 @@ invariant_of-self c =
     let sized = ap (λ f. length f.queues) (sym st.flow) ∙ inv.sizes.queues in
     let leads = leads_leaving plan (past x.lines.items) a i d.at inv.sound inv.built inv.run ready.decides.actor ready.worker in
     let hops = all_hops plan (past x.lines.items) a i d.at inv.sound inv.run ready.worker ready.decides in
-    let some = omega (arith, hops, inv.sound.settings.hop_limit.0) in
+    let some : 0 < (carried_at s i).hops = omega (arith, hops, inv.sound.settings.hop_limit.0) in
     let legal = legal_egress plan s a i d.at d.way ready.decides ready.worker some leads sized (queues_within plan (past x.lines.items) inv.run) in
     let packet = sym c.packet-packet.ensures in
     keeps_more plan x.threads x.lines.items c.push_reserved.new.self.items k k' _ (vec_capacity c.push_reserved.new.self - vec_len c.push_reserved.new.self) c.args.seat (Egress a c.packet-packet.result d.at d.way departure)

@@ -72,6 +72,7 @@ after_ingress plan s k roads a i hand at way x st there moved same =
       capacities = same;
       limit = refl;
       vms = refl;
+      nets = refl;
     }
 
 pub arrives_lets_go : (v : Settings) (f f' : Flow) (hand i : ℕ) (x : Arrival) (h : Held) → hand < length f.hands → hand_at f.hands hand ≡ Some h → f' ≡ flow_after f (arrives v (carried_in f.carried i) hand i x) → in_hand_count f' + 1 ≡ in_hand_count f

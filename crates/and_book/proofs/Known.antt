@@ -50,6 +50,25 @@ known_log plan h sound built r =
     subst (All (IsKnown plan)) (sym (follows_steps plan h sound r).log)
     (known_script plan at_start 0 plan.steps (state plan h).next sound.steps built.steps (All-nil (IsKnown plan)))
 
+known_to_end : (plan : Plan) (p : Script) (sent : ℕ) (ss : List Step) → StepsFit plan p sent ss → All IsBuiltStep ss → All (IsKnown plan) p.log → All (IsKnown plan) plan.log
+known_to_end plan p sent [] f built known = absurd f
+known_to_end plan p sent (Finish ∷ []) f built known = subst (All (IsKnown plan)) f.log known
+known_to_end plan p sent (Finish ∷ other ∷ later) f built known = absurd f.0
+known_to_end plan p sent (Append (entries.AddNet net) ∷ later) f built known =
+    known_to_end plan _ _ later f.1 (All-tail IsBuiltStep _ later built) (All-push (IsKnown plan) p.log (entries.AddNet net) known tt)
+known_to_end plan p sent (Append (entries.AddVm vm net mac ip host) ∷ later) f built known =
+    known_to_end plan _ _ later f.1 (All-tail IsBuiltStep _ later built)
+    (All-push (IsKnown plan) p.log (entries.AddVm vm net mac ip host) known (f.0.1.0, f.0.1.1.1, (added_anew plan p vm net mac ip host f.0.0).1))
+known_to_end plan p sent (Append (entries.AddRule net rule) ∷ later) f built known =
+    known_to_end plan _ _ later f.1 (All-tail IsBuiltStep _ later built) (All-push (IsKnown plan) p.log (entries.AddRule net rule) known tt)
+known_to_end plan p sent (Wait ∷ later) f built known = known_to_end plan _ _ later f.1 (All-tail IsBuiltStep _ later built) known
+known_to_end plan p sent (Inject i ∷ later) f built known = known_to_end plan _ _ later f.1 (All-tail IsBuiltStep _ later built) known
+known_to_end plan p sent (step ∷ later) f built known = absurd (All-head IsBuiltStep step later built)
+
+-- so is the whole log of the plan
+pub known_plan : (plan : Plan) → IsSound plan → IsBuilt plan → All (IsKnown plan) plan.log
+known_plan plan sound built = known_to_end plan at_start 0 plan.steps sound.steps built.steps (All-nil (IsKnown plan))
+
 named : (plan : Plan) (e : Entry) (vm : ℕ) → IsKnown plan e → adds vm e ≡ true → vm < length plan.names
 named plan (entries.AddVm v net mac ip host) vm known is = omega (arith, known.0, eqb-true v vm is)
 named plan (entries.AddNet net) vm known is = absurd (cc)

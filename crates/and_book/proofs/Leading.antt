@@ -78,7 +78,7 @@ leads_at : (plan : Plan) (by : Name) (net : ℕ) (o : Option ℕ) → ((host : �
 leads_at plan by net None known = tt
 leads_at plan by net (Some host) known = known host refl
 
-leads_by : (plan : Plan) (k : List Entry) (address : ℕ) (r : Routing) → All (IsKnown plan) k → LeadsRouted plan.settings (routed_by k address r)
+pub leads_by : (plan : Plan) (k : List Entry) (address : ℕ) (r : Routing) → All (IsKnown plan) k → LeadsRouted plan.settings (routed_by k address r)
 leads_by plan k address (routings.Dropped by) known = tt
 leads_by plan k address (routings.Into by net) known = leads_at plan by net (owner_place k net address) (λ host e. owner_known plan k net address host known e)
 

@@ -9,4 +9,7 @@ pub mod Leading
 pub mod Settled
 pub mod PlainPorts
 pub mod Arriving
+pub mod Unsent
+pub mod Departing
+pub mod NetTable
 pub mod TestsLemmas

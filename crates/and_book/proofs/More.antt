@@ -1,6 +1,6 @@
 -- One more line keeps a book.
 use Rattle.std.proofs.Common.{◌≡◌, ℕ, ◌+◌, ◌-◌, ◌≤◌, vec_len, vec_capacity, List, [], ◌∷◌, ◌++◌, length, refl, sym, ap, ◌∙◌, subst, arith, replicate, cond, Option, None}
-use Rattle.std.specs.Prelude.{slice_index, is_some}
+use Rattle.std.specs.Prelude.{slice_index, slice_index_or, is_some}
 use Rattle.std.specs.List.{All, count_by}
 use Rattle.std.proofs.lemmas.Grind.{fold-append}
 use Rattle.std.proofs.lemmas.List.Elements.{All-push, All-nil, All-replicate}
@@ -41,6 +41,7 @@ pub record IsAfter (plan : Plan) (s : State) (e : Event) (k k' : Kept) : Type 0 
   pub capacities : k'.roads.capacities ≡ k.roads.capacities
   pub limit : k'.progress.limit ≡ k.progress.limit
   pub vms : k'.progress.vms ≡ k.progress.vms
+  pub nets : k'.nets ≡ k.nets
 
 pub keeps_more : (plan : Plan) (threads : ℕ) (lines lines' : List Line) (k k' : Kept) (spare spare' seat : ℕ) (e : Event) →
     Keeps plan threads lines k spare → Legal plan (state plan (past lines)) e → seat ≡ seat_of threads plan.settings (actor_of e)
@@ -61,6 +62,7 @@ keeps_more plan threads lines lines' k k' spare spare' seat e keeps legal seated
         capacities = λ q h. ap (λ c. slice_index c q) follows.capacities ∙ keeps.sized.capacities q h;
         limit = follows.limit ∙ keeps.sized.limit;
         vms = follows.vms ∙ keeps.sized.vms;
+        nets = λ vm. ap (λ ns. slice_index_or ns vm 0) follows.nets ∙ keeps.sized.nets vm;
       };
       parcels = parcels;
       held = fits;

@@ -85,7 +85,7 @@ after_gate plan s k roads a i hand d st there moved same =
     let flow = moved
     ∙ (ap (λ f. flow_after f (gate_move plan.settings f hand i d)) st.flow
     ∙ (ap (λ n. flow_after s.flow (gate_move plan.settings s.flow n i d)) there ∙ flow_gate plan s a i d)) in
-    record { stands = quiet_gate plan s a i d k roads st flow; capacities = same; limit = refl; vms = refl }
+    record { stands = quiet_gate plan s a i d k roads st flow; capacities = same; limit = refl; vms = refl; nets = refl }
 
 -- ---- the hand is empty then
 

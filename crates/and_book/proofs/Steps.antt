@@ -38,6 +38,7 @@ after_announce plan s k p node place upto st there is limit vms =
       capacities = refl;
       limit = limit;
       vms = vms;
+      nets = refl;
     }
 
 pub after_installed : (plan : Plan) (s : State) (k : Kept) (p : Progressed) (node : Node) (place upto : ℕ) → Stands k s → place ≡ node_place plan.settings node → p.programmes ≡ programmes_after k.progress.programmes (Installs place upto) → p.limit ≡ k.progress.limit → p.vms ≡ k.progress.vms → IsAfter plan s (Installed node upto) k (record k { progress = p })
@@ -48,6 +49,7 @@ after_installed plan s k p node place upto st there is limit vms =
       capacities = refl;
       limit = limit;
       vms = vms;
+      nets = refl;
     }
 
 -- the length of the programme, and what is announced, as they are kept
@@ -73,12 +75,12 @@ legal_finish plan s n is due can = steps_due plan s n steps.Finish is due can
 pub after_wait : (plan : Plan) (s : State) (k : Kept) (n : ℕ) → Stands k s → IsAfter plan s (Wait n) k (record k { next = k.next + 1 })
 unfolding after move_of word_of ports_move_of step_of flow_after ports_after programmes_after
 after_wait plan s k n st =
-    record { stands = record { next = ap (λ m. m + 1) st.next; programmes = st.programmes; ports = st.ports; flow = st.flow }; capacities = refl; limit = refl; vms = refl }
+    record { stands = record { next = ap (λ m. m + 1) st.next; programmes = st.programmes; ports = st.ports; flow = st.flow }; capacities = refl; limit = refl; vms = refl; nets = refl }
 
 pub after_finish : (plan : Plan) (s : State) (k : Kept) (n : ℕ) → Stands k s → IsAfter plan s (Finish n) k (record k { next = k.next + 1 })
 unfolding after move_of word_of ports_move_of step_of flow_after ports_after programmes_after
 after_finish plan s k n st =
-    record { stands = record { next = ap (λ m. m + 1) st.next; programmes = st.programmes; ports = st.ports; flow = st.flow }; capacities = refl; limit = refl; vms = refl }
+    record { stands = record { next = ap (λ m. m + 1) st.next; programmes = st.programmes; ports = st.ports; flow = st.flow }; capacities = refl; limit = refl; vms = refl; nets = refl }
 
 pub legal_append : (plan : Plan) (s : State) (n : ℕ) (e : Entry) → n ≡ s.next → slice_get plan.steps n ≡ Some (steps.Append e) → Legal plan s (Append n)
 unfolding Legal
@@ -97,6 +99,7 @@ after_append plan s k p ports n e st due logged moved limit vms =
       capacities = refl;
       limit = limit;
       vms = vms;
+      nets = refl;
     }
 
 pub legal_inject : (plan : Plan) (s : State) (n i : ℕ) (full : Bool) → n ≡ s.next → slice_get plan.steps s.next ≡ Some (steps.Inject i) → KnowsVm plan s (home plan s i) (packet_at plan i).vm → EndsAt plan s (queue_place plan.settings (Host (home plan s i)) Out) (inject_end full) → Legal plan s (Inject n i full)
@@ -116,6 +119,7 @@ after_inject plan s k roads n i q full st there moved same =
       capacities = same;
       limit = refl;
       vms = refl;
+      nets = refl;
     }
 
 -- a packet that comes from outside is in no hand

@@ -79,6 +79,7 @@ after_take plan s k roads a held hand from need q st there source is grabbed mov
       capacities = same;
       limit = refl;
       vms = refl;
+      nets = refl;
     }
 
 -- one more hand is full

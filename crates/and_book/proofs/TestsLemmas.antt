@@ -3,7 +3,6 @@ use Rattle.std.proofs.Common.{◌≡◌, ℕ, ◌+◌, ◌-◌, ◌≤◌, ◌�
 use Rattle.std.specs.Prelude.{slice_get}
 use Rattle.std.proofs.lemmas.List.Elements.{All-nil, All-cons, All-replicate}
 use Rattle.and_policy.specs.declared.entry.Op.{Op}
-use Rattle.and_policy.specs.declared.port.Port.TheVariants.{Absent}
 use Rattle.and_events.specs.declared.event.Actor.TheVariants.{Driver}
 use Rattle.and_events.specs.declared.event.Event.TheVariants.{Wait}
 use Rattle.and_events.specs.declared.event.Held.{Held}

@@ -14,6 +14,7 @@ use Rattle.and_kept.specs.Lanes.{Roads}
 use Rattle.and_kept.specs.Nodes.{Progressed}
 use Rattle.and_book.specs.declared.book.Book.TheInside.{Inside}
 use Rattle.and_book.specs.Views.{BookView, IsSmall, IsPacket}
+use Rattle.and_book.specs.Nets.{HasNets}
 
 -- what is kept of the state
 pub record Kept : Type 0 where
@@ -21,9 +22,10 @@ pub record Kept : Type 0 where
   pub progress : Progressed
   pub ports : List (List Port)
   pub roads : Roads
+  pub nets : List ℕ
 
 abbrev pub kept_of : Inside → Kept
-kept_of b = record { next = b.next; progress = b.progress; ports = b.ports; roads = b.traffic }
+kept_of b = record { next = b.next; progress = b.progress; ports = b.ports; roads = b.traffic; nets = b.nets.items }
 
 abbrev pub view_of : Inside → BookView
 view_of b = record { plan = b.plan; threads = b.threads; lines = b.lines.items; spare = vec_capacity b.lines - vec_len b.lines }
@@ -35,11 +37,12 @@ pub record Stands (k : Kept) (s : State) : Type 0 where
   pub ports : k.ports ≡ s.ports
   pub flow : k.roads.flow ≡ s.flow
 
--- what never changes in it: the queues' capacities, and for how many entries and VMs there is room
+-- what never changes in it: the queues' capacities, for how many entries and VMs there is room, and the VMs' networks
 pub record IsSized (plan : Plan) (k : Kept) : Type 0 where
   pub capacities : (q : ℕ) → q < queue_count plan.settings → slice_index k.roads.capacities q ≡ capacity_at plan.settings q
   pub limit : k.progress.limit ≡ length plan.log
   pub vms : k.progress.vms ≡ length plan.names
+  pub nets : HasNets k.nets plan.log
 
 -- the lines are a run of the plan, each with the seat of its actor, and what is kept is the state after them
 pub record Keeps (plan : Plan) (threads : ℕ) (lines : List Line) (k : Kept) (spare : ℕ) : Type 0 where

@@ -1,5 +1,8 @@
 -- How a packet in hand is settled, by what the policy says of it.
-use Rattle.std.specs.Prelude.{◌≡◌, ℕ, ◌<◌, Bool, List}
+use Rattle.std.specs.Prelude.{◌≡◌, ℕ, ◌<◌, Bool, true, false, List}
+use Rattle.and_policy.specs.declared.decision.Dest.{Dest}
+use Rattle.and_policy.specs.declared.decision.Leaving.{Leaving}
+use Rattle.and_policy.specs.declared.decision.Leaving.TheVariants as leavings
 use Rattle.and_policy.specs.declared.decision.Name.{Name}
 use Rattle.and_policy.specs.declared.decision.Routed.{Routed}
 use Rattle.and_policy.specs.declared.decision.Routed.TheVariants as routeds
@@ -19,26 +22,30 @@ use Rattle.and_policy.specs.declared.port.Port.TheVariants as port_states
 use Rattle.and_policy.specs.FlowHash.{gateway_of}
 use Rattle.and_policy.specs.Ingress.{landing}
 use Rattle.and_policy.specs.Owners.{routed, located}
+use Rattle.and_policy.specs.Programmes.{leaving}
 use Rattle.and_parcel.specs.Parcels.{ParcelView}
 use Rattle.and_events.specs.declared.event.Actor.{Actor}
 use Rattle.and_events.specs.declared.event.Arrival.{Arrival}
 use Rattle.and_events.specs.declared.event.Arrival.TheVariants as arrivals
+use Rattle.and_events.specs.declared.event.Departure.{Departure}
+use Rattle.and_events.specs.declared.event.Departure.TheVariants as departures
 use Rattle.and_events.specs.declared.event.End.{End}
 use Rattle.and_events.specs.declared.event.End.TheVariants as ends
 use Rattle.and_events.specs.declared.event.Endpoint.{Endpoint}
 use Rattle.and_events.specs.declared.event.Endpoint.TheVariants as endpoints
 use Rattle.and_events.specs.declared.event.Event.{Event}
-use Rattle.and_events.specs.declared.event.Event.TheVariants.{Route, Redirect, Ingress}
+use Rattle.and_events.specs.declared.event.Event.TheVariants.{Egress, Route, Redirect, Ingress}
+use Rattle.and_events.specs.declared.event.Node.{Node}
 use Rattle.and_events.specs.declared.event.Passage.{Passage}
 use Rattle.and_events.specs.declared.event.Passage.TheVariants as passages
-use Rattle.and_events.specs.declared.event.Queue.TheVariants.{Wire}
+use Rattle.and_events.specs.declared.event.Queue.TheVariants.{Out, Wire, Seal}
 use Rattle.and_events.specs.declared.event.Return.{Return}
 use Rattle.and_events.specs.declared.event.Return.TheVariants as returns
 use Rattle.and_events.specs.declared.plan.Plan.{Plan}
 use Rattle.and_events.specs.declared.plan.Settings.{Settings}
-use Rattle.and_events.specs.Places.{queue_place, capacity_at, node_of, IsWorker, IsGatewayWorker}
-use Rattle.and_events.specs.Flow.{Flow, Move, carried_in, end_of_send}
-use Rattle.and_events.specs.State.{State, node_at, passes, goes_back, carried_at, tuple_at, host_of}
+use Rattle.and_events.specs.Places.{queue_place, capacity_at, node_of, IsNode, IsWorker, IsGatewayWorker}
+use Rattle.and_events.specs.Flow.{Flow, Move, carried_in, end_at, end_of_send}
+use Rattle.and_events.specs.State.{State, node_at, dest_endpoint, passes, goes_back, carried_at, packet_at, tuple_at, programme_of, host_of}
 use Rattle.and_events.specs.Ports.{port_at}
 use Rattle.and_events.specs.Legal.{Decides, entries_at, IsRouteTarget, IsRedirectTarget}
 use Rattle.and_kept.specs.Lanes.{parcels_after}
@@ -175,3 +182,46 @@ pub record MaySettleIngress (plan : Plan) (s : State) (a : Actor) (i : ℕ) (d :
 abbrev pub IsLanding : Outcome → Type 0
 IsLanding (outcomes.Landing said) = Unit {0}
 IsLanding _ = ⊥
+
+-- ---- at a host, where a packet leaves a VM
+
+-- how a packet that is allowed to leave ends: at its host's `seal` queue where it is to be sealed, by a send where it is not
+abbrev pub departs_end : Settings → Flow → Node → ℕ → Bool → Dest → End
+departs_end s f here i true dest = end_at (capacity_at s (queue_place s here Seal)) f.queues (queue_place s here Seal)
+departs_end s f here i false dest = end_to s f i (dest_endpoint dest)
+
+abbrev pub departure_of : Settings → Flow → Node → ℕ → Leaving → Departure
+departure_of s f here i leavings.NoVm = departures.NoVm
+departure_of s f here i leavings.Spoofed = departures.Spoofed
+departure_of s f here i (leavings.Denied number) = departures.Denied number
+departure_of s f here i (leavings.Allowed by sealed dest) = departures.Allowed by sealed dest (departs_end s f here i sealed dest)
+
+abbrev pub parcels_departed : Settings → List (List ParcelView) → Node → ParcelView → Departure → List (List ParcelView)
+parcels_departed s parcels here p (departures.Allowed by true dest end) = parcels_after parcels (queue_place s here Seal) p end
+parcels_departed s parcels here p (departures.Allowed by false dest end) = parcels_after parcels (queue_to s (dest_endpoint dest)) p end
+parcels_departed s parcels here p _ = parcels
+
+-- where it leads is there
+abbrev pub LeadsLeaving : Settings → Leaving → Type 0
+LeadsLeaving s (leavings.Allowed by sealed dest) = IsNode s (node_at (dest_endpoint dest))
+LeadsLeaving s _ = Unit {0}
+
+-- the policy's word
+abbrev pub leaving_said : Plan → State → Actor → ℕ → ℕ → Leaving
+leaving_said plan s a i at = leaving plan.settings.gateways (programme_of plan s (node_of a)) at (packet_at plan i).vm (tuple_at plan i)
+
+-- what a host worker's decision of such a packet does
+abbrev pub egress_event : Plan → State → Actor → ℕ → ℕ → Way → Event
+egress_event plan s a i at way = Egress a i at way (departure_of plan.settings s.flow (node_of a) i (leaving_said plan s a i at))
+
+-- the host worker has the packet in hand from `out`, and the decision is the policy's at a number that lies between what was
+-- installed at the take and what is announced
+pub record MaySettleEgress (plan : Plan) (s : State) (a : Actor) (i : ℕ) (d : Decision) : Type 0 where
+  pub decides : Decides plan s a i Out d.at
+  pub worker : IsWorker a
+  pub said : d.outcome ≡ outcomes.Leaving (leaving_said plan s a i d.at)
+
+-- the outcome is of a packet that leaves a VM
+abbrev pub IsLeaving : Outcome → Type 0
+IsLeaving (outcomes.Leaving said) = Unit {0}
+IsLeaving _ = ⊥

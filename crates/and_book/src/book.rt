@@ -8,14 +8,15 @@ ghost use Rattle.and_events.specs.Ports.{ports_after};
 ghost use Rattle.and_events.specs.Legal.{CanAnnounce, CanInstall, IsAtRest, IsOver, KnowsVm};
 ghost use Rattle.and_events.specs.Sound.{IsSound, IsBuilt, IsBuiltEntry};
 ghost use Rattle.and_book.specs.Views.{BookView, now, held, IsSeat, with_line, source_in, MayTake, IsPacket, IsAppend, finds_full};
-ghost use Rattle.and_book.specs.Settling.{MaySettleGateway, gate_event, MaySettleIngress, ingress_event, IsLanding};
+ghost use Rattle.and_book.specs.Settling.{MaySettleGateway, gate_event, MaySettleIngress, ingress_event, IsLanding, MaySettleEgress, egress_event, IsLeaving};
 
+use crate::nets::{net_of, nets_of};
 use crate::places::{hand_place, host_of, node_of, node_place, queue_place, source};
-use crate::sending::{settle_gate, settle_landing};
+use crate::sending::{settle_gate, settle_landing, settle_leaving};
 use and_events::{Actor, Event, Held, Items, Line, Node, Packet, Plan, Queue, Step};
 use and_kept::{PortTable, Progress, Traffic};
 use and_parcel::Parcel;
-use and_policy::{Decision, Entry, GateDecision, Landing, NoMemory, Op, Outcome, Tuple};
+use and_policy::{Decision, Entry, GateDecision, Landing, Leaving, NoMemory, Op, Outcome, Tuple};
 use std::alloc::Global;
 use std::marker::Model;
 
@@ -29,6 +30,7 @@ pub struct Book {
     progress: Progress,
     ports: PortTable,
     traffic: Traffic,
+    nets: Vec<u32>,
 }
 
 impl Model for Book {
@@ -58,6 +60,7 @@ impl Book {
         let nodes = settings.hosts as usize + settings.gateways as usize;
         let progress = Progress::make(alloc, nodes, plan.log.len() as u32, plan.names.len())?;
         let ports = PortTable::make(alloc, plan.names.len(), settings.hosts as usize)?;
+        let nets = nets_of(alloc, plan.log.as_slice(), plan.names.len())?;
         Ok(Book {
             plan,
             threads,
@@ -66,6 +69,7 @@ impl Book {
             progress,
             ports,
             traffic,
+            nets,
         })
     }
 
@@ -323,6 +327,32 @@ impl Book {
             },
         });
     }
+
+    /// The host worker settles the packet in its hand that leaves a VM, by a decision of the policy.
+    pub fn settle_egress(&mut self, seat: u32, actor: Actor, parcel: Parcel, decision: Decision)
+        requires seat { IsSeat self.old seat actor }
+        requires ready { MaySettleEgress self.old.plan (now self.old) actor parcel.packet decision }
+        requires parcel { IsPacket self.old.plan parcel }
+        ensures { self.new ≡ with_line self.old seat (egress_event self.old.plan (now self.old) actor parcel.packet decision.at decision.way) }
+    {
+        let settings = self.plan.settings;
+        let hand = hand_place(settings, actor);
+        let here = node_of(actor);
+        let packet = parcel.packet();
+        let own = net_of(&self.nets, parcel.vm());
+        let said = leaving_in(decision.outcome);
+        let departure = settle_leaving(settings, &mut self.traffic, here, hand, own, parcel, said);
+        self.lines.push_reserved(Line {
+            seat,
+            event: Event::Egress {
+                actor,
+                packet,
+                at: decision.at,
+                way: decision.way,
+                departure,
+            },
+        });
+    }
 }
 
 // The entry that a step appends.
@@ -366,5 +396,16 @@ fn landing_in(outcome: Outcome) -> Landing
     match outcome {
         Outcome::Landing(said) => said,
         Outcome::Leaving(_) => unreachable!(),
+    }
+}
+
+// What an outcome says of a packet that leaves a VM.
+fn leaving_in(outcome: Outcome) -> Leaving
+    requires { IsLeaving outcome }
+    ensures { outcome ≡ Outcome.Leaving result }
+{
+    match outcome {
+        Outcome::Leaving(said) => said,
+        Outcome::Landing(_) => unreachable!(),
     }
 }

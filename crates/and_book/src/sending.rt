@@ -1,19 +1,23 @@
 //! What becomes of a packet in hand.
 ghost use Rattle.std.specs.Prelude.{◌≡◌, ℕ, ◌<◌, length, slice_index};
-ghost use Rattle.and_events.specs.declared.event.Queue.TheVariants.{Wire};
-ghost use Rattle.and_events.specs.Places.{queue_count, capacity_at, IsNode};
+ghost use Rattle.and_events.specs.declared.event.Queue.TheVariants.{Wire, Seal};
+ghost use Rattle.and_events.specs.Places.{queue_count, capacity_at, IsNode, HasQueue};
 ghost use Rattle.and_events.specs.Places as places;
 ghost use Rattle.and_events.specs.Flow.{flow_after, carried_in};
 ghost use Rattle.and_events.specs.State as states;
 ghost use Rattle.and_kept.specs.Lanes.{parcels_after};
 ghost use Rattle.and_book.specs.Views.{IsSmall};
-ghost use Rattle.and_book.specs.Settling.{queue_to, end_to, passage_of, return_of, parcels_passed, parcels_returned, LeadsRouted, LeadsLocated, LeadsGate, gate_event, gate_move, gate_parcels, arrival_at, arrival_of, parcels_arrived, LeadsPort, LeadsLanding};
+ghost use Rattle.and_book.specs.Settling.{queue_to, end_to, passage_of, return_of, parcels_passed, parcels_returned, LeadsRouted, LeadsLocated, LeadsGate, gate_event, gate_move, gate_parcels, arrival_at, arrival_of, parcels_arrived, LeadsPort, LeadsLanding, departure_of, parcels_departed, LeadsLeaving};
 
 use crate::places::queue_place;
-use and_events::{Actor, Arrival, End, Endpoint, Event, Node, Passage, Queue, Return, Settings};
+use and_events::{
+    Actor, Arrival, Departure, End, Endpoint, Event, Node, Passage, Queue, Return, Settings,
+};
 use and_kept::{PortTable, Traffic};
 use and_parcel::Parcel;
-use and_policy::{GateDecision, Landing, Located, Name, Port, Routed, Tuple, flow_hash};
+use and_policy::{
+    Dest, GateDecision, Landing, Leaving, Located, Name, Port, Routed, Tuple, flow_hash,
+};
 
 // The node at which a send for an endpoint arrives.
 fn node_at(target: Endpoint) -> Node
@@ -269,6 +273,91 @@ pub(crate) fn settle_landing(
         Landing::Owned { vm, by, pass } => {
             let port = ports.at(here as usize, vm as usize);
             arrive(settings, traffic, port, hand, tuple, parcel, vm, by, pass)
+        }
+    }
+}
+
+// Gives a packet that may leave its VM to be sealed at its host, or sends it.
+fn depart(
+    settings: Settings,
+    traffic: &mut Traffic,
+    here: Node,
+    hand: usize,
+    own: u32,
+    parcel: Parcel,
+    by: Name,
+    sealed: bool,
+    dest: Dest,
+) -> Departure
+    requires small { IsSmall settings }
+    requires hand { hand < length traffic.old.flow.hands }
+    requires queues { length traffic.old.flow.queues ≡ queue_count settings }
+    requires packet { parcel.packet < length traffic.old.flow.carried }
+    requires capacities { (q : ℕ) → q < queue_count settings → slice_index traffic.old.capacities q ≡ capacity_at settings q }
+    requires here { IsNode settings here }
+    requires seals { HasQueue here Seal }
+    requires leads { LeadsLeaving settings (Leaving.Allowed by sealed dest) }
+    ensures departure { result ≡ departure_of settings traffic.old.flow here parcel.packet (Leaving.Allowed by sealed dest) }
+    ensures flow { traffic.new.flow ≡ flow_after traffic.old.flow (states.departs settings own hand parcel.packet here result) }
+    ensures parcels { traffic.new.parcels ≡ parcels_departed settings traffic.old.parcels here parcel result }
+    ensures capacities { traffic.new.capacities ≡ traffic.old.capacities }
+{
+    let (target, net) = match dest {
+        Dest::Offload { host, net } => (Endpoint::Host(host), net),
+        Dest::Hover { gateway } => (Endpoint::Route(gateway), own),
+    };
+    let end = if sealed {
+        let queue = queue_place(settings, here, Queue::Seal);
+        traffic.seal(hand, queue, parcel, net, target)
+    } else {
+        send(settings, traffic, hand, parcel, net, target)
+    };
+    Departure::Allowed {
+        by,
+        sealed,
+        dest,
+        end,
+    }
+}
+
+/// What a host worker's decision does with the packet in its hand that leaves a VM of this network.
+pub(crate) fn settle_leaving(
+    settings: Settings,
+    traffic: &mut Traffic,
+    here: Node,
+    hand: usize,
+    own: u32,
+    parcel: Parcel,
+    said: Leaving,
+) -> Departure
+    requires small { IsSmall settings }
+    requires hand { hand < length traffic.old.flow.hands }
+    requires queues { length traffic.old.flow.queues ≡ queue_count settings }
+    requires packet { parcel.packet < length traffic.old.flow.carried }
+    requires capacities { (q : ℕ) → q < queue_count settings → slice_index traffic.old.capacities q ≡ capacity_at settings q }
+    requires here { IsNode settings here }
+    requires seals { HasQueue here Seal }
+    requires leads { LeadsLeaving settings said }
+    ensures departure { result ≡ departure_of settings traffic.old.flow here parcel.packet said }
+    ensures flow { traffic.new.flow ≡ flow_after traffic.old.flow (states.departs settings own hand parcel.packet here result) }
+    ensures parcels { traffic.new.parcels ≡ parcels_departed settings traffic.old.parcels here parcel result }
+    ensures capacities { traffic.new.capacities ≡ traffic.old.capacities }
+{
+    match said {
+        Leaving::NoVm => {
+            traffic.stop(hand, parcel);
+            Departure::NoVm
+        }
+        Leaving::Spoofed => {
+            traffic.stop(hand, parcel);
+            Departure::Spoofed
+        }
+        Leaving::Denied { number } => {
+            traffic.stop(hand, parcel);
+            Departure::Denied { number }
+        }
+        Leaving::Allowed { by, sealed, dest } => {
+            depart(settings, traffic, here, hand, own, parcel, by, sealed, dest)
         }
     }
 }

@@ -1,0 +1,168 @@
+-- A packet that leaves a VM and is settled: the event is legal, and what is kept after it.
+use Rattle.std.proofs.Common.{◌≡◌, ℕ, ◌+◌, ◌<◌, Bool, true, false, List, length, refl, sym, ap, ◌∙◌, subst, arith, Option, Some, None}
+use Rattle.std.specs.List.{All}
+use Rattle.and_policy.specs.declared.decision.Dest.{Dest}
+use Rattle.and_policy.specs.declared.decision.Exit.{Exit}
+use Rattle.and_policy.specs.declared.decision.Exit.TheVariants as exits
+use Rattle.and_policy.specs.declared.decision.Leaving.{Leaving}
+use Rattle.and_policy.specs.declared.decision.Leaving.TheVariants as leavings
+use Rattle.and_policy.specs.declared.decision.Name.{Name}
+use Rattle.and_policy.specs.declared.decision.Way.{Way}
+use Rattle.and_policy.specs.declared.entry.Order.{Order}
+use Rattle.and_policy.specs.declared.packet.Tuple.{Tuple}
+use Rattle.and_policy.specs.Egress.{egress}
+use Rattle.and_policy.specs.Logs.{vm_of}
+use Rattle.and_policy.specs.Programmes.{prefix, live, own_net, dest_by, leaving_by}
+use Rattle.and_policy.specs.Routes.{route}
+use Rattle.and_parcel.specs.Parcels.{ParcelView}
+use Rattle.and_events.specs.declared.event.Actor.{Actor}
+use Rattle.and_events.specs.declared.event.Actor.TheVariants.{HostInstall, GateInstall, Worker, Coproc, Gateway, Controller, Driver}
+use Rattle.and_events.specs.declared.event.Departure.{Departure}
+use Rattle.and_events.specs.declared.event.Departure.TheVariants as departures
+use Rattle.and_events.specs.declared.event.End.{End}
+use Rattle.and_events.specs.declared.event.End.TheVariants.{Queued, Full, Hops}
+use Rattle.and_events.specs.declared.event.Endpoint.{Endpoint}
+use Rattle.and_events.specs.declared.event.Event.{Event}
+use Rattle.and_events.specs.declared.event.Event.TheVariants.{Egress}
+use Rattle.and_events.specs.declared.event.Held.{Held}
+use Rattle.and_events.specs.declared.event.Node.{Node}
+use Rattle.and_events.specs.declared.event.Node.TheVariants.{Host, Gate}
+use Rattle.and_events.specs.declared.event.Queue.TheVariants.{Out, Seal}
+use Rattle.and_events.specs.declared.plan.Plan.{Plan}
+use Rattle.and_events.specs.declared.plan.Settings.{Settings}
+use Rattle.and_events.specs.Places.{hand_place, queue_place, queue_count, node_of, IsNode, IsActor, IsWorker, HasQueue}
+use Rattle.and_events.specs.Flow.{Flow, flow_after, hand_at, seal_by}
+use Rattle.and_events.specs.Ports.{ports_after}
+use Rattle.and_events.specs.Programming.{programmes_after}
+use Rattle.and_events.specs.State.{State, state, after, move_of, word_of, ports_move_of, step_of, departs, dest_endpoint, dest_net, node_at, source_net, packet_at, tuple_at, carried_at, programme_of}
+use Rattle.and_events.specs.Legal.{Legal, Decides, Departs, Sends}
+use Rattle.and_events.specs.Run.{Run}
+use Rattle.and_events.specs.Sound.{IsSound, IsBuilt}
+use Rattle.and_laws.specs.Fates.{in_hand_count}
+use Rattle.and_laws.proofs.Offloading.{right_orders}
+use Rattle.and_kept.specs.Lanes.{Roads}
+use Rattle.and_book.specs.Settling.{queue_to, departs_end, departure_of, parcels_departed, LeadsRouted, LeadsLeaving, leaving_said, egress_event}
+use Rattle.and_book.specs.Inside.{Kept, Stands}
+use Rattle.and_book.proofs.Ends.{Within, ends_at, sends_end}
+use Rattle.and_book.proofs.Injecting.{all_after}
+use Rattle.and_book.proofs.Leading.{known_entries, leads_by}
+use Rattle.and_book.proofs.Settled.{lets_go, send_lets_go, worker_node}
+use Rattle.and_book.proofs.More.{IsAfter}
+
+-- ---- where it leads
+
+pub seals_at : (a : Actor) → IsWorker a → HasQueue (node_of a) Seal
+seals_at (Worker h w) worker = tt
+seals_at (Gateway g) worker = absurd worker
+seals_at (HostInstall h) worker = absurd worker
+seals_at (GateInstall g) worker = absurd worker
+seals_at (Coproc h) worker = absurd worker
+seals_at Controller worker = absurd worker
+seals_at Driver worker = absurd worker
+
+leads_dest : (v : Settings) (x : Tuple) (o : Option Order) → 0 < v.gateways → ((order : Order) → o ≡ Some order → order.to_host < v.hosts) → IsNode v (node_at (dest_endpoint (dest_by v.gateways x o)))
+leads_dest v x None some known = omega (arith, some)
+leads_dest v x (Some order) some known = known order refl
+
+leads_exit : (v : Settings) (x : Exit) (dest : Dest) → IsNode v (node_at (dest_endpoint dest)) → LeadsLeaving v (leaving_by x dest)
+leads_exit v exits.NoVm dest there = tt
+leads_exit v exits.Spoofed dest there = tt
+leads_exit v (exits.Denied n) dest there = tt
+leads_exit v (exits.Allowed by sealed) dest there = there
+
+-- a live order leads to a host that is there, as the route leads there, and so does the flow hash to a gateway
+pub leads_leaving : (plan : Plan) (h : List Event) (a : Actor) (i at : ℕ) → IsSound plan → IsBuilt plan → Run plan h → IsActor plan.settings a → IsWorker a → LeadsLeaving plan.settings (leaving_said plan (state plan h) a i at)
+leads_leaving plan h a i at sound built r actor worker =
+    let p = programme_of plan (state plan h) (node_of a) in
+    let k = prefix p at in
+    let vm = (packet_at plan i).vm in
+    let x = tuple_at plan i in
+    let net = own_net (vm_of k vm) in
+    let node = worker_node plan.settings a worker actor in
+    let known = known_entries plan h a at sound built r node in
+    leads_exit plan.settings (egress k vm x) (dest_by plan.settings.gateways x (live p at net x.destination))
+    (leads_dest plan.settings x (live p at net x.destination) sound.settings.gateways.0
+    (λ order is.
+    let right = right_orders plan h sound r (node_of a) node at net x.destination order is in
+    subst (LeadsRouted plan.settings) right.1 (leads_by plan k x.destination (route k net x.destination) known)))
+
+-- ---- legal
+
+seal_within : (v : Settings) (node : Node) → IsNode v node → HasQueue node Seal → queue_place v node Seal < queue_count v
+seal_within v (Host h) is has = omega (arith, is)
+seal_within v (Gate g) is has = absurd has
+
+departs_by : (plan : Plan) (s : State) (here : Node) (i : ℕ) (by : Name) (sealed : Bool) (dest : Dest) → IsNode plan.settings here → HasQueue here Seal → 0 < (carried_at s i).hops → IsNode plan.settings (node_at (dest_endpoint dest)) → length s.flow.queues ≡ queue_count plan.settings → Within plan s
+    → Departs plan s here i (leavings.Allowed by sealed dest) (departures.Allowed by sealed dest (departs_end plan.settings s.flow here i sealed dest))
+departs_by plan s here i by true dest node seals hops leads sized w =
+    let there : queue_place plan.settings here Seal < length s.flow.queues = omega (arith, seal_within plan.settings here node seals, sized) in
+    (refl, ends_at plan s (queue_place plan.settings here Seal) there w)
+departs_by plan s here i by false dest node seals hops leads sized w =
+    let target = dest_endpoint dest in
+    let sends = sends_end plan s i target leads sized w in
+    (refl, (λ e. let none : (carried_at s i).hops ≡ 0 = subst (Sends plan s i target) e sends in omega (arith, none, hops)), sends)
+
+departs_so : (plan : Plan) (s : State) (here : Node) (i : ℕ) (said : Leaving) → IsNode plan.settings here → HasQueue here Seal → 0 < (carried_at s i).hops → LeadsLeaving plan.settings said → length s.flow.queues ≡ queue_count plan.settings → Within plan s
+    → Departs plan s here i said (departure_of plan.settings s.flow here i said)
+departs_so plan s here i leavings.NoVm node seals hops leads sized w = refl
+departs_so plan s here i leavings.Spoofed node seals hops leads sized w = refl
+departs_so plan s here i (leavings.Denied n) node seals hops leads sized w = refl
+departs_so plan s here i (leavings.Allowed by sealed dest) node seals hops leads sized w = departs_by plan s here i by sealed dest node seals hops leads sized w
+
+pub legal_egress : (plan : Plan) (s : State) (a : Actor) (i at : ℕ) (way : Way) → Decides plan s a i Out at → IsWorker a → 0 < (carried_at s i).hops → LeadsLeaving plan.settings (leaving_said plan s a i at) → length s.flow.queues ≡ queue_count plan.settings → Within plan s
+    → Legal plan s (egress_event plan s a i at way)
+unfolding Legal
+legal_egress plan s a i at way decides worker hops leads sized w = (
+  decides,
+  worker,
+  departs_so plan s (node_of a) i (leaving_said plan s a i at) (worker_node plan.settings a worker decides.actor) (seals_at a worker) hops leads sized w,
+)
+
+-- ---- after it
+
+pub after_egress : (plan : Plan) (s : State) (k : Kept) (roads : Roads) (a : Actor) (i hand own at : ℕ) (here : Node) (way : Way) (x : Departure) → Stands k s → hand ≡ hand_place plan.settings a → own ≡ source_net plan i → here ≡ node_of a → roads.flow ≡ flow_after k.roads.flow (departs plan.settings own hand i here x) → roads.capacities ≡ k.roads.capacities
+    → IsAfter plan s (Egress a i at way x) k (record k { roads = roads })
+unfolding after move_of word_of ports_move_of step_of programmes_after ports_after
+after_egress plan s k roads a i hand own at here way x st there net node moved same =
+    record {
+      stands = record {
+        next = st.next;
+        programmes = st.programmes;
+        ports = st.ports;
+        flow = moved
+            ∙ (ap (λ f. flow_after f (departs plan.settings own hand i here x)) st.flow
+            ∙ (ap (λ n. flow_after s.flow (departs plan.settings own n i here x)) there
+            ∙ (ap (λ n. flow_after s.flow (departs plan.settings n (hand_place plan.settings a) i here x)) net
+            ∙ ap (λ n. flow_after s.flow (departs plan.settings (source_net plan i) (hand_place plan.settings a) i n x)) node)));
+      };
+      capacities = same;
+      limit = refl;
+      vms = refl;
+      nets = refl;
+    }
+
+seal_lets_go : (f : Flow) (hand q i net : ℕ) (end : End) (target : Endpoint) (h : Held) → hand < length f.hands → hand_at f.hands hand ≡ Some h → in_hand_count (flow_after f (seal_by hand q i end net target)) + 1 ≡ in_hand_count f
+unfolding flow_after
+seal_lets_go f hand q i net Queued target h there is = lets_go f hand h there is
+seal_lets_go f hand q i net Full target h there is = lets_go f hand h there is
+seal_lets_go f hand q i net Hops target h there is = lets_go f hand h there is
+
+pub departs_lets_go : (v : Settings) (f f' : Flow) (hand i own : ℕ) (here : Node) (x : Departure) (h : Held) → hand < length f.hands → hand_at f.hands hand ≡ Some h → f' ≡ flow_after f (departs v own hand i here x) → in_hand_count f' + 1 ≡ in_hand_count f
+unfolding flow_after
+departs_lets_go v f f' hand i own here (departures.Allowed by true dest end) h there is moved =
+    ap (λ y. in_hand_count y + 1) moved ∙ seal_lets_go f hand (queue_place v here Seal) i (dest_net own dest) end (dest_endpoint dest) h there is
+departs_lets_go v f f' hand i own here (departures.Allowed by false dest end) h there is moved =
+    ap (λ y. in_hand_count y + 1) moved ∙ send_lets_go f hand (queue_to v (dest_endpoint dest)) i (dest_net own dest) end (dest_endpoint dest) h there is
+departs_lets_go v f f' hand i own here departures.NoVm h there is moved = ap (λ y. in_hand_count y + 1) moved ∙ lets_go f hand h there is
+departs_lets_go v f f' hand i own here departures.Spoofed h there is moved = ap (λ y. in_hand_count y + 1) moved ∙ lets_go f hand h there is
+departs_lets_go v f f' hand i own here (departures.Denied n) h there is moved = ap (λ y. in_hand_count y + 1) moved ∙ lets_go f hand h there is
+
+pub all_departed : (P : ParcelView → Type 0) (v : Settings) (parcels parcels' : List (List ParcelView)) (here : Node) (p : ParcelView) (x : Departure) → parcels' ≡ parcels_departed v parcels here p x → P p → All (λ ps. All P ps) parcels → All (λ ps. All P ps) parcels'
+all_departed P v parcels parcels' here p x is ok all = subst (All (λ ps. All P ps)) (sym is) (by_kind x)
+  where
+    by_kind : (y : Departure) → All (λ ps. All P ps) (parcels_departed v parcels here p y)
+    by_kind (departures.Allowed by true dest end) = all_after P parcels (queue_place v here Seal) p end ok all
+    by_kind (departures.Allowed by false dest end) = all_after P parcels (queue_to v (dest_endpoint dest)) p end ok all
+    by_kind departures.NoVm = all
+    by_kind departures.Spoofed = all
+    by_kind (departures.Denied n) = all

@@ -17,3 +17,6 @@ pub use fate::{fate_of, fates};
 pub use fresh::{installed_at_take, is_fresh};
 pub use order::is_in_plain_order;
 pub use placed::places;
+
+#[cfg(test)]
+mod tests;

@@ -55,6 +55,30 @@ acts_as v packets p f due (GateInstall g) b t is = absurd t
 acts_as v packets p f due Controller b t is = absurd t
 acts_as v packets p f due Driver b t is = absurd t
 
+-- ---- the queue from which an actor takes
+
+module _ (plan : Plan) (s : State) where
+  not_empty : (xs : List ℕ) (i : ℕ) (rest : List ℕ) → xs ≡ i ∷ rest → xs ≡ [] → ⊥
+  not_empty xs i rest e none = let no_way : i ∷ rest ≡ [] = sym e ∙ none in absurd (cc)
+
+  longer : (xs : List ℕ) (i : ℕ) (rest : List ℕ) → xs ≡ i ∷ rest → nat_lt 0 (length xs) ≡ true
+  longer xs i rest e = let more : 0 < length xs = omega (arith, ap length e) in grind (arith, common_steps, more)
+
+  pub source_is : (a : Actor) (q : Queue) (i : ℕ) → Handles a → CanTake plan s a q i → source_in plan.settings s.flow a ≡ q
+  source_is (Worker h w) Wire i t can = ap (λ b. if b then Wire else Out) (longer _ i can.front.0 can.front.1)
+  source_is (Worker h w) Out i t can = ap (λ xs. if nat_lt 0 (length xs) then Wire else Out) can.queue
+  source_is (Worker h w) Seal i t can = absurd can.queue
+  source_is (Coproc h) Seal i t can = refl
+  source_is (Coproc h) Wire i t can = absurd can.queue
+  source_is (Coproc h) Out i t can = absurd can.queue
+  source_is (Gateway g) Wire i t can = refl
+  source_is (Gateway g) Out i t can = absurd can.queue
+  source_is (Gateway g) Seal i t can = absurd can.queue
+  source_is (HostInstall h) q i t can = absurd t
+  source_is (GateInstall g) q i t can = absurd t
+  source_is Controller q i t can = absurd t
+  source_is Driver q i t can = absurd t
+
 -- ---- installers
 
 module _ (plan : Plan) (s : State) (free : AreFree plan s) where
@@ -90,33 +114,12 @@ module _ (plan : Plan) (s : State) (free : AreFree plan s) where
   works a is t (inl has) = inl (is, has)
   works a is t (inr some) = works_by a _ is t refl some
 
-  not_empty : (xs : List ℕ) (i : ℕ) (rest : List ℕ) → xs ≡ i ∷ rest → xs ≡ [] → ⊥
-  not_empty xs i rest e none = let no_way : i ∷ rest ≡ [] = sym e ∙ none in absurd (cc)
-
-  longer : (xs : List ℕ) (i : ℕ) (rest : List ℕ) → xs ≡ i ∷ rest → nat_lt 0 (length xs) ≡ true
-  longer xs i rest e = let more : 0 < length xs = omega (arith, ap length e) in grind (arith, common_steps, more)
-
-  source_is : (a : Actor) (q : Queue) (i : ℕ) → Handles a → CanTake plan s a q i → source_in plan.settings s.flow a ≡ q
-  source_is (Worker h w) Wire i t can = ap (λ b. if b then Wire else Out) (longer _ i can.front.0 can.front.1)
-  source_is (Worker h w) Out i t can = ap (λ xs. if nat_lt 0 (length xs) then Wire else Out) can.queue
-  source_is (Worker h w) Seal i t can = absurd can.queue
-  source_is (Coproc h) Seal i t can = refl
-  source_is (Coproc h) Wire i t can = absurd can.queue
-  source_is (Coproc h) Out i t can = absurd can.queue
-  source_is (Gateway g) Wire i t can = refl
-  source_is (Gateway g) Out i t can = absurd can.queue
-  source_is (Gateway g) Seal i t can = absurd can.queue
-  source_is (HostInstall h) q i t can = absurd t
-  source_is (GateInstall g) q i t can = absurd t
-  source_is Controller q i t can = absurd t
-  source_is Driver q i t can = absurd t
-
   pub worked : (a : Actor) → Handles a → Works a → IsActor plan.settings a × IsBusy plan.settings s.flow a
   worked a t (inl (is, has)) = (is, inl has)
   worked a t (inr (q, i, can)) = (
     can.actor,
-    inr (λ none. not_empty _ i can.front.0 can.front.1
-        (ap (λ x. queue_at s.flow.queues (queue_place plan.settings (node_of a) x)) (sym (source_is a q i t can)) ∙ none)),
+    inr (λ none. not_empty plan s _ i can.front.0 can.front.1
+        (ap (λ x. queue_at s.flow.queues (queue_place plan.settings (node_of a) x)) (sym (source_is plan s a q i t can)) ∙ none)),
   )
 
   -- ---- at rest, and over

@@ -14,4 +14,5 @@ pub mod Departing
 pub mod NetTable
 pub mod Enabled
 pub mod Due
+pub mod Next
 pub mod TestsLemmas

@@ -12,4 +12,7 @@ pub mod Arriving
 pub mod Unsent
 pub mod Departing
 pub mod NetTable
+pub mod Enabled
+pub mod Due
+pub mod Next
 pub mod TestsLemmas

@@ -32,7 +32,7 @@ IsPlain _ = ⊥
 abbrev pub ArePlain : List (List Port) → Type 0
 ArePlain ports = All (λ row. All IsPlain row) ports
 
-plain_at : (ports : List (List Port)) (host vm : ℕ) → ArePlain ports → IsPlain (port_at ports host vm)
+pub plain_at : (ports : List (List Port)) (host vm : ℕ) → ArePlain ports → IsPlain (port_at ports host vm)
 plain_at ports host vm plain =
     at_or IsPlain (ports_of ports vm) host Absent (at_or (λ row. All IsPlain row) ports vm [] plain (All-nil IsPlain)) tt
 
@@ -57,7 +57,7 @@ after_entry ports entry_kinds.Tick built plain = absurd built
 after_append : (s : State) (o : Option Step) (e : Entry) → o ≡ Some (steps.Append e) → IsBuiltEntry e → ArePlain s.ports → ArePlain (ports_after s.ports (ports_move_of_step s o))
 after_append s o e told built plain = subst (λ x. ArePlain (ports_after s.ports (ports_move_of_step s x))) (sym told) (after_entry s.ports e built plain)
 
-not_hairpin : (ports : List (List Port)) (host vm to entry : ℕ) → ArePlain ports → port_at ports host vm ≡ Hairpin to entry → ⊥
+pub not_hairpin : (ports : List (List Port)) (host vm to entry : ℕ) → ArePlain ports → port_at ports host vm ≡ Hairpin to entry → ⊥
 not_hairpin ports host vm to entry plain is = subst IsPlain is (plain_at ports host vm plain)
 
 pub plain_ports : (plan : Plan) (h : List Event) → IsBuilt plan → Run plan h → ArePlain (state plan h).ports

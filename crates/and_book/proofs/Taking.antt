@@ -30,11 +30,11 @@ first : (xs : List ℕ) (i : ℕ) → slice_get xs 0 ≡ Some i → (rest : List
 first [] i e = absurd (cc)
 first (x ∷ xs) i e = (xs, cc)
 
-none_there : (xs : List ℕ) → length xs ≤ 0 → xs ≡ []
+pub none_there : (xs : List ℕ) → length xs ≤ 0 → xs ≡ []
 none_there [] h = refl
 none_there (x ∷ xs) h = absurd (omega (arith, h))
 
-takes_from : (plan : Plan) (s : State) (a : Actor) → Handles a → TakesFrom plan s a (source_in plan.settings s.flow a)
+pub takes_from : (plan : Plan) (s : State) (a : Actor) → Handles a → TakesFrom plan s a (source_in plan.settings s.flow a)
 takes_from plan s (Worker h w) t =
     let wire = queue_at s.flow.queues (queue_place plan.settings (Host h) Wire) in
     elim (nat_lt 0 (length wire)) as (λ b. (nat_lt 0 (length wire) ≡ b → TakesFrom plan s (Worker h w) (if b then Wire else Out))) [

@@ -1,15 +1,16 @@
 //! The book.
-ghost use Rattle.std.specs.Prelude.{◌≡◌, ℕ, ◌+◌, ◌<◌, ◌≤◌, ◌^◌, List, [], length, IfOk, OnOk, Some, slice_get, slice_index_or};
+ghost use Rattle.std.specs.Prelude.{◌≡◌, ℕ, ◌+◌, ◌<◌, ◌≤◌, ◌^◌, ◌↔◌, List, [], length, IfOk, OnOk, IsTrue, Some, slice_get, slice_index_or};
 ghost use Rattle.and_events.specs.declared.event.Actor.TheVariants.{Driver};
 ghost use Rattle.and_events.specs.Places as places;
 ghost use Rattle.and_events.specs.Places.{installer_of, IsNode};
 ghost use Rattle.and_events.specs.State.{programme_of, announced_of, installed_of, home, packet_at, no_packet, ports_move_of_entry};
 ghost use Rattle.and_events.specs.Ports.{ports_after};
-ghost use Rattle.and_events.specs.Legal.{CanAnnounce, CanInstall, IsAtRest, IsOver, KnowsVm};
+ghost use Rattle.and_events.specs.Legal.{CanAnnounce, CanInstall, IsAtRest, IsOver, KnowsVm, Enabled};
 ghost use Rattle.and_events.specs.Sound.{IsSound, IsBuilt, IsBuiltEntry};
 ghost use Rattle.and_book.specs.Views.{BookView, now, held, IsSeat, with_line, source_in, MayTake, IsPacket, IsAppend, finds_full};
 ghost use Rattle.and_book.specs.Settling.{MaySettleGateway, gate_event, MaySettleIngress, ingress_event, IsLanding, MaySettleEgress, egress_event, IsLeaving};
 
+use crate::enabling::can_act;
 use crate::nets::{net_of, nets_of};
 use crate::places::{hand_place, host_of, node_of, node_place, queue_place, source};
 use crate::sending::{settle_gate, settle_landing, settle_leaving};
@@ -111,6 +112,20 @@ impl Book {
         ensures { result ≡ slice_get self.now.plan.steps (now self.now).next }
     {
         self.plan.steps.get(self.next as usize).copied()
+    }
+
+    /// Whether one of the actor's events is legal. It takes the same few steps however long the run is.
+    pub fn enabled(&self, actor: Actor) -> bool
+        ensures { IsTrue result ↔ Enabled self.now.plan (now self.now) actor }
+    {
+        can_act(
+            self.plan.settings,
+            &self.plan.packets,
+            &self.progress,
+            &self.traffic,
+            self.next_step(),
+            actor,
+        )
     }
 
     /// The node's programme.

@@ -8,6 +8,7 @@
 #![tactic(auto)]
 
 mod book;
+mod enabling;
 mod nets;
 mod places;
 mod sending;

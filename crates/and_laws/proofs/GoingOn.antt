@@ -40,14 +40,14 @@ pub record AreFree (plan : Plan) (s : State) : Type 0 where
   pub install : (node : Node) → install_held plan s node ≡ false
   pub forward : (node : Node) → forward_held plan s node ≡ false
 
-record QueueOf (s : Settings) (k : ℕ) : Type 0 where
+pub record QueueOf (s : Settings) (k : ℕ) : Type 0 where
   pub node : Node
   pub queue : Queue
   pub is : IsNode s node
   pub has : HasQueue node queue
   pub place : queue_place s node queue ≡ k
 
-queue_of : (s : Settings) (k : ℕ) → k < queue_count s → QueueOf s k
+pub queue_of : (s : Settings) (k : ℕ) → k < queue_count s → QueueOf s k
 queue_of s k l =
     ⊎_elim (λ (m : k < s.hosts). record { node = Host k; queue = Out; is = m; has = tt; place = refl })
     (λ (m : s.hosts ≤ k).

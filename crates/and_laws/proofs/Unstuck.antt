@@ -77,7 +77,7 @@ hairpin_pins port_states.Running is = absurd is
 hairpin_pins port_states.Paused is = absurd is
 hairpin_pins port_states.Arriving is = absurd is
 
-are_free : (plan : Plan) (h : List Event) → IsBuilt plan → Run plan h → AreFree plan (state plan h)
+pub are_free : (plan : Plan) (h : List Event) → IsBuilt plan → Run plan h → AreFree plan (state plan h)
 are_free plan h b r =
     let held = nothing_held plan h b r in
     record { install = λ node. held.install (node_place plan.settings node); forward = λ node. held.forward (node_place plan.settings node) }

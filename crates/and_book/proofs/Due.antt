@@ -1,0 +1,115 @@
+-- In a run of a built plan an actor may act by what is kept where it is enabled; and the packet of the step that is due is one of a VM with a name.
+use Rattle.std.proofs.Common.{◌≡◌, ℕ, ◌<◌, Bool, true, List, length, sym, ap, ◌∙◌, refl, subst, Option, Some, None}
+use Rattle.std.specs.Prelude.{slice_get, unwrap_or, ◌↔◌, ◌==◌, IsTrue}
+use Rattle.std.proofs.lemmas.Option.{unwrap_or-slice_get, slice_get_within}
+use Rattle.and_policy.specs.declared.port.Port.{Port}
+use Rattle.and_policy.specs.declared.port.Port.TheVariants.{Absent, Running, Paused, Arriving, Hairpin}
+use Rattle.and_policy.specs.Logs.{vms, is_live}
+use Rattle.and_events.specs.declared.event.Actor.{Actor}
+use Rattle.and_events.specs.declared.event.Actor.TheVariants.{HostInstall, GateInstall, Worker, Coproc, Gateway, Controller, Driver}
+use Rattle.and_events.specs.declared.event.Event.{Event}
+use Rattle.and_events.specs.declared.event.Node.TheVariants.{Host, Gate}
+use Rattle.and_events.specs.declared.plan.Plan.{Plan}
+use Rattle.and_events.specs.declared.plan.Step.{Step}
+use Rattle.and_events.specs.declared.plan.Step.TheVariants as steps
+use Rattle.and_events.specs.Ports.{port_at, IsHairpin}
+use Rattle.and_events.specs.State.{State, state, packet_at, no_packet}
+use Rattle.and_events.specs.Legal.{Enabled}
+use Rattle.and_events.specs.Run.{Run}
+use Rattle.and_events.specs.Sound.{IsSound, IsBuilt}
+use Rattle.and_laws.specs.Scripted.{script_at}
+use Rattle.and_laws.proofs.Following.{follows}
+use Rattle.and_laws.proofs.Steps.{does}
+use Rattle.and_laws.proofs.GoingOn.{number_of, find_live}
+use Rattle.and_laws.proofs.Unstuck.{are_free}
+use Rattle.and_laws.proofs.Sizes.{sizes, nodes as nodes_of}
+use Rattle.and_book.specs.Inside.{Kept, Stands}
+use Rattle.and_book.specs.Enabling.{CanDo, CanAct, IsInjectable, vm_in}
+use Rattle.and_book.proofs.Known.{added_named, known_log, built_step}
+use Rattle.and_book.proofs.PlainPorts.{IsPlain, plain_ports, plain_at, not_hairpin}
+use Rattle.and_book.proofs.Enabled.{installer_may, installer_was, works, worked, does_due, did_step}
+
+no_pin : (port : Port) → IsPlain port → IsHairpin port → ⊥
+no_pin (Hairpin to entry) plain is = absurd plain
+no_pin Absent plain is = absurd is
+no_pin Running plain is = absurd is
+no_pin Paused plain is = absurd is
+no_pin Arriving plain is = absurd is
+
+module _ (plan : Plan) (h : List Event) (sound : IsSound plan) (built : IsBuilt plan) (r : Run plan h) where
+  abbrev s : State
+  s = state plan h
+
+  no_pins : (host vm : ℕ) → IsHairpin (port_at s.ports host vm) → ⊥
+  no_pins host vm is = no_pin (port_at s.ports host vm) (plain_at s.ports host vm (plain_ports plan h built r)) is
+
+  abbrev CanActNow : Actor → Type 0
+  CanActNow a = CanAct plan.settings plan.packets s.programmes s.flow (slice_get plan.steps s.next) a
+
+  pub may_act : (a : Actor) → CanActNow a → Enabled plan s a
+  may_act (HostInstall k) (is, can) = installer_may plan s (are_free plan h built r) (Host k) is can
+  may_act (GateInstall k) (is, can) = installer_may plan s (are_free plan h built r) (Gate k) is can
+  may_act (Worker k w) (is, can) = works plan s (are_free plan h built r) (Worker k w) is tt can
+  may_act (Coproc k) (is, can) = works plan s (are_free plan h built r) (Coproc k) is tt can
+  may_act (Gateway k) (is, can) = works plan s (are_free plan h built r) (Gateway k) is tt can
+  may_act Controller (is, can) = absurd can
+  may_act Driver (is, can) =
+      does_due plan s (are_free plan h built r) (sizes plan h) (nodes_of plan h) no_pins (slice_get plan.steps s.next) can
+
+  pub may_act_of : (a : Actor) → Enabled plan s a → CanActNow a
+  may_act_of (HostInstall k) e = installer_was plan s (are_free plan h built r) (Host k) e
+  may_act_of (GateInstall k) e = installer_was plan s (are_free plan h built r) (Gate k) e
+  may_act_of (Worker k w) e = worked plan s (are_free plan h built r) (Worker k w) tt e
+  may_act_of (Coproc k) e = worked plan s (are_free plan h built r) (Coproc k) tt e
+  may_act_of (Gateway k) e = worked plan s (are_free plan h built r) (Gateway k) tt e
+  may_act_of Controller (host, vm, (to, entry, there, port, all)) = absurd (not_hairpin s.ports host vm to entry (plain_ports plan h built r) port)
+  may_act_of Driver (step, told, can) = (
+    tt,
+    subst (CanDo plan.settings plan.packets s.programmes s.flow) (sym told)
+        (did_step plan s (are_free plan h built r) (sizes plan h) (nodes_of plan h) step (built_step plan s.next step built told) can),
+  )
+
+  -- ---- the packet of the step that is due
+
+  inject_named : (i : ℕ) → slice_get plan.steps s.next ≡ Some (steps.Inject i) → (i < length plan.packets) × (vm_in plan.packets i < length plan.names)
+  inject_named i told =
+      let d = (does plan h s.next (steps.Inject i) sound refl told).fits in
+      let packet = d.1.0 in
+      let sent = d.1.2 in
+      let f = follows plan h sound r in
+      let p = script_at plan h in
+      let there : packet_at plan i ≡ packet = sym (unwrap_or-slice_get plan.packets i no_packet) ∙ ap (λ o. unwrap_or o no_packet) d.1.1 in
+      let number : (packet_at plan i).vm ≡ sent.vm.number = ap (λ x. x.vm) there ∙ sym sent.number in
+      let live : is_live p.log (packet_at plan i).vm ≡ true =
+      subst (λ n. is_live p.log n ≡ true) (sym number) (find_live (λ v. v.mac == sent.mac) (vms p.log) sent.vm sent.source) in
+      let live_now : is_live s.programmes.log (packet_at plan i).vm ≡ true = ap (λ k. is_live k (packet_at plan i).vm) f.log ∙ live in
+      let q = number_of s.programmes.log (packet_at plan i).vm live_now in (
+        slice_get_within plan.packets i packet d.1.1,
+        added_named plan s.programmes.log (packet_at plan i).vm q.number (known_log plan h sound built r) q.is,
+      )
+
+  due_named : (due : Option Step) → slice_get plan.steps s.next ≡ due → IsInjectable plan.packets (length plan.names) due
+  due_named (Some (steps.Inject i)) told = inject_named i told
+  due_named (Some (steps.Append e)) told = tt
+  due_named (Some steps.Review) told = tt
+  due_named (Some (steps.Hold node what)) told = tt
+  due_named (Some (steps.Free node what)) told = tt
+  due_named (Some steps.Wait) told = tt
+  due_named (Some (steps.Blackout vm host)) told = tt
+  due_named (Some (steps.Resume vm)) told = tt
+  due_named (Some steps.Finish) told = tt
+  due_named None told = tt
+
+  pub due_injectable : IsInjectable plan.packets (length plan.names) (slice_get plan.steps s.next)
+  due_injectable = due_named (slice_get plan.steps s.next) refl
+
+  -- ---- by what is kept
+
+  pub enabled_by : (k : Kept) (due : Option Step) (a : Actor) (b : Bool) → Stands k s → due ≡ slice_get plan.steps s.next
+      → (IsTrue b ↔ CanAct plan.settings plan.packets k.progress.programmes k.roads.flow due a) → IsTrue b ↔ Enabled plan s a
+  enabled_by k due a b st is can =
+      let now_is : IsTrue b ↔ CanActNow a =
+      subst (λ o. IsTrue b ↔ CanAct plan.settings plan.packets s.programmes s.flow o a) is
+      (subst (λ f. IsTrue b ↔ CanAct plan.settings plan.packets s.programmes f due a) st.flow
+      (subst (λ p. IsTrue b ↔ CanAct plan.settings plan.packets p k.roads.flow due a) st.programmes can)) in
+      ((λ t. may_act a (now_is.0 t)), (λ e. now_is.1 (may_act_of a e)))

@@ -1,0 +1,201 @@
+-- Who may act by what is kept is who is enabled, where nothing is held and no hairpin is made.
+use Rattle.std.proofs.Common.{◌≡◌, ℕ, ◌+◌, ◌-◌, ◌<◌, ◌≤◌, Bool, true, List, [], ◌∷◌, length, refl, sym, ap, ◌∙◌, subst, arith, Option, Some, None, ⊎_elim, inl, inr, ◌⊎◌}
+use Rattle.std.specs.Prelude.{nat_lt, if◌then◌else◌, ◌↔◌, IsTrue}
+use Rattle.std.proofs.lemmas.Bool.{cases_lt}
+use Rattle.std.proofs.lemmas.Grind.{common_steps}
+use Rattle.std.proofs.lemmas.List.{get_or_default, get_or_past}
+use Rattle.and_events.specs.declared.event.Actor.{Actor}
+use Rattle.and_events.specs.declared.event.Actor.TheVariants.{HostInstall, GateInstall, Worker, Coproc, Gateway, Controller, Driver}
+use Rattle.and_events.specs.declared.event.Held.{Held}
+use Rattle.and_events.specs.declared.event.Node.{Node}
+use Rattle.and_events.specs.declared.event.Node.TheVariants.{Host, Gate}
+use Rattle.and_events.specs.declared.event.Queue.{Queue}
+use Rattle.and_events.specs.declared.event.Queue.TheVariants.{Out, Wire, Seal}
+use Rattle.and_events.specs.declared.plan.Packet.{Packet}
+use Rattle.and_events.specs.declared.plan.Plan.{Plan}
+use Rattle.and_events.specs.declared.plan.Step.{Step}
+use Rattle.and_events.specs.declared.plan.Step.TheVariants as steps
+use Rattle.and_events.specs.declared.plan.Settings.{Settings}
+use Rattle.and_events.specs.Places.{node_place, node_count, queue_place, hand_place, node_of, IsActor, IsNode}
+use Rattle.and_events.specs.Flow.{Flow, queue_at, hand_at}
+use Rattle.and_events.specs.Ports.{port_at, IsHairpin}
+use Rattle.and_events.specs.Programming.{Programmes, installed_at, programme_at}
+use Rattle.and_events.specs.State.{State, installed_of, programme_of}
+use Rattle.and_events.specs.Legal.{CanAnnounce, CanInstall, CanTake, CanStep, HasHand, IsAtRest, IsOver}
+use Rattle.and_events.specs.Sound.{IsBuiltStep}
+use Rattle.and_laws.specs.Sizes.{HasSizes, HasNodes}
+use Rattle.and_laws.proofs.GoingOn.{AreFree, queue_of}
+use Rattle.and_book.specs.Views.{Handles, source_in}
+use Rattle.and_book.specs.Enabling.{CanProgramme, IsBusy, IsStill, CanDo, Acts}
+use Rattle.and_book.proofs.Taking.{takes_from}
+
+-- what is in the actor's hand and queue, by their places
+pub busy : (v : Settings) (f : Flow) (a : Actor) (hand from : ℕ) (x y b : Bool) → hand ≡ hand_place v a → from ≡ queue_place v (node_of a) (source_in v f a)
+    → (IsTrue x ↔ ((h : Held) × (hand_at f.hands hand ≡ Some h))) → (IsTrue y ↔ (queue_at f.queues from ≡ [] → ⊥)) → (IsTrue b ↔ (IsTrue x ⊎ IsTrue y))
+    → IsTrue b ↔ IsBusy v f a
+busy v f a hand from x y b at place has finds either =
+    let has_now : IsTrue x ↔ ((h : Held) × (hand_at f.hands (hand_place v a) ≡ Some h)) =
+    subst (λ n. IsTrue x ↔ ((h : Held) × (hand_at f.hands n ≡ Some h))) at has in
+    let finds_now : IsTrue y ↔ (queue_at f.queues (queue_place v (node_of a) (source_in v f a)) ≡ [] → ⊥) =
+    subst (λ n. IsTrue y ↔ (queue_at f.queues n ≡ [] → ⊥)) place finds in (
+      (λ t. ⊎_elim (λ (u : IsTrue x). inl (has_now.0 u)) (λ (u : IsTrue y). inr (finds_now.0 u)) (either.0 t)),
+      (λ is. either.1
+          (⊎_elim (λ (u : (h : Held) × (hand_at f.hands (hand_place v a) ≡ Some h)). inl (has_now.1 u))
+          (λ (u : queue_at f.queues (queue_place v (node_of a) (source_in v f a)) ≡ [] → ⊥). inr (finds_now.1 u)) is)),
+    )
+
+-- whoever takes packets acts where it is busy
+pub acts_as : (v : Settings) (packets : List Packet) (p : Programmes) (f : Flow) (due : Option Step) (a : Actor) (b : Bool) → Handles a → (IsTrue b ↔ IsBusy v f a)
+    → IsTrue b ↔ Acts v packets p f due a
+acts_as v packets p f due (Worker h w) b t is = is
+acts_as v packets p f due (Coproc h) b t is = is
+acts_as v packets p f due (Gateway g) b t is = is
+acts_as v packets p f due (HostInstall h) b t is = absurd t
+acts_as v packets p f due (GateInstall g) b t is = absurd t
+acts_as v packets p f due Controller b t is = absurd t
+acts_as v packets p f due Driver b t is = absurd t
+
+-- ---- the queue from which an actor takes
+
+module _ (plan : Plan) (s : State) where
+  not_empty : (xs : List ℕ) (i : ℕ) (rest : List ℕ) → xs ≡ i ∷ rest → xs ≡ [] → ⊥
+  not_empty xs i rest e none = let no_way : i ∷ rest ≡ [] = sym e ∙ none in absurd (cc)
+
+  longer : (xs : List ℕ) (i : ℕ) (rest : List ℕ) → xs ≡ i ∷ rest → nat_lt 0 (length xs) ≡ true
+  longer xs i rest e = let more : 0 < length xs = omega (arith, ap length e) in grind (arith, common_steps, more)
+
+  pub source_is : (a : Actor) (q : Queue) (i : ℕ) → Handles a → CanTake plan s a q i → source_in plan.settings s.flow a ≡ q
+  source_is (Worker h w) Wire i t can = ap (λ b. if b then Wire else Out) (longer _ i can.front.0 can.front.1)
+  source_is (Worker h w) Out i t can = ap (λ xs. if nat_lt 0 (length xs) then Wire else Out) can.queue
+  source_is (Worker h w) Seal i t can = absurd can.queue
+  source_is (Coproc h) Seal i t can = refl
+  source_is (Coproc h) Wire i t can = absurd can.queue
+  source_is (Coproc h) Out i t can = absurd can.queue
+  source_is (Gateway g) Wire i t can = refl
+  source_is (Gateway g) Out i t can = absurd can.queue
+  source_is (Gateway g) Seal i t can = absurd can.queue
+  source_is (HostInstall h) q i t can = absurd t
+  source_is (GateInstall g) q i t can = absurd t
+  source_is Controller q i t can = absurd t
+  source_is Driver q i t can = absurd t
+
+-- ---- installers
+
+module _ (plan : Plan) (s : State) (free : AreFree plan s) where
+  pub installer_may : (node : Node) → IsNode plan.settings node → CanProgramme s.programmes (node_place plan.settings node) → CanAnnounce plan s node ⊎ CanInstall plan s node
+  installer_may node is (inl (same, more)) = inl (is, free.install node, same, more)
+  installer_may node is (inr less) = inr (is, less)
+
+  pub installer_was : (node : Node) → CanAnnounce plan s node ⊎ CanInstall plan s node → IsNode plan.settings node × CanProgramme s.programmes (node_place plan.settings node)
+  installer_was node (inl can) = (can.0, inl (can.2, can.3))
+  installer_was node (inr can) = (can.0, inr can.1)
+
+  -- ---- whoever takes packets
+
+  abbrev Works : Actor → Type 0
+  Works a = (IsActor plan.settings a × HasHand plan s a) ⊎ ((q : Queue) × (i : ℕ) × CanTake plan s a q i)
+
+  takes_first : (a : Actor) (xs : List ℕ) → IsActor plan.settings a → Handles a → hand_at s.flow.hands (hand_place plan.settings a) ≡ None
+      → queue_at s.flow.queues (queue_place plan.settings (node_of a) (source_in plan.settings s.flow a)) ≡ xs → (xs ≡ [] → ⊥) → Works a
+  takes_first a [] is t empty e some = absurd (some refl)
+  takes_first a (i ∷ rest) is t empty e some =
+      inr (
+        source_in plan.settings s.flow a,
+        i,
+        record { actor = is; free = empty; running = free.forward (node_of a); queue = takes_from plan s a t; front = (rest, e) },
+      )
+
+  works_by : (a : Actor) (o : Option Held) → IsActor plan.settings a → Handles a → hand_at s.flow.hands (hand_place plan.settings a) ≡ o
+      → (queue_at s.flow.queues (queue_place plan.settings (node_of a) (source_in plan.settings s.flow a)) ≡ [] → ⊥) → Works a
+  works_by a (Some h) is t e some = inl (is, (h, e))
+  works_by a None is t e some = takes_first a _ is t e refl some
+
+  pub works : (a : Actor) → IsActor plan.settings a → Handles a → IsBusy plan.settings s.flow a → Works a
+  works a is t (inl has) = inl (is, has)
+  works a is t (inr some) = works_by a _ is t refl some
+
+  pub worked : (a : Actor) → Handles a → Works a → IsActor plan.settings a × IsBusy plan.settings s.flow a
+  worked a t (inl (is, has)) = (is, inl has)
+  worked a t (inr (q, i, can)) = (
+    can.actor,
+    inr (λ none. not_empty plan s _ i can.front.0 can.front.1
+        (ap (λ x. queue_at s.flow.queues (queue_place plan.settings (node_of a) x)) (sym (source_is plan s a q i t can)) ∙ none)),
+  )
+
+  -- ---- at rest, and over
+
+  module _ (sized : HasSizes plan s.flow) (noded : HasNodes plan s.programmes) where
+    place_within : (node : Node) → IsNode plan.settings node → node_place plan.settings node < node_count plan.settings
+    place_within (Host h) is = omega (arith, is)
+    place_within (Gate g) is = omega (arith, is)
+
+    installed_all : IsStill s.programmes s.flow → (node : Node) → IsNode plan.settings node → installed_of plan s node ≡ length (programme_of plan s node)
+    installed_all still node is = still.installed (node_place plan.settings node) (omega (arith, place_within node is, noded.ops))
+
+    empty_all : IsStill s.programmes s.flow → (q : ℕ) → queue_at s.flow.queues q ≡ []
+    empty_all still q =
+        ⊎_elim
+        (λ (l : q < length s.flow.queues). still.queues q [] l)
+        (λ (l : length s.flow.queues ≤ q). get_or_past s.flow.queues q [] l)
+        (cases_lt q (length s.flow.queues))
+
+    rests : IsStill s.programmes s.flow → IsAtRest plan s
+    rests still = record {
+      installed = λ node is unheld. installed_all still node is;
+      hands = still.hands;
+      queues = λ node q is has unheld. empty_all still (queue_place plan.settings node q);
+    }
+
+    ends : ((host vm : ℕ) → IsHairpin (port_at s.ports host vm) → ⊥) → IsStill s.programmes s.flow → IsOver plan s
+    ends none still = record { queues = still.queues; hands = still.hands; installed = installed_all still; hairpins = none }
+
+    installed_places : ((node : Node) → IsNode plan.settings node → installed_of plan s node ≡ length (programme_of plan s node))
+        → (n : ℕ) → n < length s.programmes.ops → installed_at s.programmes n ≡ length (programme_at s.programmes n)
+    installed_places all n l =
+        ⊎_elim
+        (λ (m : n < plan.settings.hosts). all (Host n) m)
+        (λ (m : plan.settings.hosts ≤ n).
+        let same : plan.settings.hosts + (n - plan.settings.hosts) ≡ n = omega (arith, m) in
+        subst (λ k. installed_at s.programmes k ≡ length (programme_at s.programmes k)) same
+        (all (Gate (n - plan.settings.hosts)) (omega (arith, l, m, noded.ops))))
+        (cases_lt n plan.settings.hosts)
+
+    rested : IsAtRest plan s → IsStill s.programmes s.flow
+    rested rest = record {
+      installed = installed_places (λ node is. rest.installed node is (free.install node));
+      queues = λ k d l.
+          let nothing : List ℕ = [] in
+          let q = queue_of plan.settings k (omega (arith, l, sized.queues)) in
+          get_or_default s.flow.queues k d nothing l
+          ∙ subst (λ p. queue_at s.flow.queues p ≡ []) q.place (rest.queues q.node q.queue q.is q.has (free.forward q.node));
+      hands = rest.hands;
+    }
+
+    ended : IsOver plan s → IsStill s.programmes s.flow
+    ended over = record { installed = installed_places over.installed; queues = over.queues; hands = over.hands }
+
+    -- ---- the step that is due
+
+    pub does_due : ((host vm : ℕ) → IsHairpin (port_at s.ports host vm) → ⊥) → (due : Option Step)
+        → CanDo plan.settings plan.packets s.programmes s.flow due → (step : Step) × (due ≡ Some step) × CanStep plan s step
+    does_due none (Some (steps.Append e)) can = (steps.Append e, refl, tt)
+    does_due none (Some (steps.Inject i)) can = (steps.Inject i, refl, (can.0, can.1, can.2, can.3))
+    does_due none (Some steps.Wait) can = (steps.Wait, refl, rests can)
+    does_due none (Some steps.Finish) can = (steps.Finish, refl, ends none can)
+    does_due none (Some steps.Review) can = absurd can
+    does_due none (Some (steps.Hold node what)) can = absurd can
+    does_due none (Some (steps.Free node what)) can = absurd can
+    does_due none (Some (steps.Blackout vm host)) can = absurd can
+    does_due none (Some (steps.Resume vm)) can = absurd can
+    does_due none None can = absurd can
+
+    pub did_step : (step : Step) → IsBuiltStep step → CanStep plan s step → CanDo plan.settings plan.packets s.programmes s.flow (Some step)
+    did_step (steps.Append e) b can = tt
+    did_step (steps.Inject i) b can = (can.0, can.1, can.2, can.3)
+    did_step steps.Wait b can = rested can
+    did_step steps.Finish b can = ended can
+    did_step steps.Review b can = absurd b
+    did_step (steps.Hold node what) b can = absurd b
+    did_step (steps.Free node what) b can = absurd b
+    did_step (steps.Blackout vm host) b can = absurd b
+    did_step (steps.Resume vm) b can = absurd b

@@ -1,0 +1,30 @@
+use Rattle.std.proofs.Common.{sym, subst, length}
+use Rattle.std.specs.Prelude.{◌≡◌, ◌↔◌, slice_get, IsTrue}
+use Rattle.and_events.specs.declared.plan.Plan.{Plan}
+use Rattle.and_events.specs.Legal.{Enabled}
+use Rattle.and_events.specs.Run.{past}
+use Rattle.and_book.specs.Views.{BookView, now}
+use Rattle.and_book.specs.Inside.{Kept, kept_of}
+use Rattle.and_book.specs.Enabling.{IsInjectable}
+use Rattle.and_book.proofs.More.{seen}
+use Rattle.and_book.proofs.Due.{enabled_by, due_injectable}
+use Rattle.and_book.proofs.book.Book.enabled.Goals as goal
+
+pub can_act-requires-clause-injectable : goal.can_act-requires-clause-injectable
+can_act-requires-clause-injectable c =
+    let x = c.self.inside in
+    let plan : Plan = x.plan in
+    let inv = c.self.invariant in
+    let due = seen x c.args.self.now c.self.view_is (λ (b : BookView). c.next_step.result ≡ slice_get b.plan.steps (now b).next) c.next_step.ensures in
+    subst (λ n. IsInjectable plan.packets n c.next_step.result) (sym inv.sized.vms)
+    (subst (IsInjectable plan.packets (length plan.names)) (sym due) (due_injectable plan (past x.lines.items) inv.sound inv.built inv.run))
+
+pub returns : goal.returns
+returns c =
+    let x = c.self.inside in
+    let plan : Plan = x.plan in
+    let k : Kept = kept_of x in
+    let inv = c.self.invariant in
+    let due = seen x c.args.self.now c.self.view_is (λ (b : BookView). c.next_step.result ≡ slice_get b.plan.steps (now b).next) c.next_step.ensures in
+    subst (λ (b : BookView). IsTrue c.can_act.result ↔ Enabled b.plan (now b) c.args.actor) c.self.view_is
+    (enabled_by plan (past x.lines.items) inv.sound inv.built inv.run k c.next_step.result c.args.actor c.can_act.result inv.stands due c.can_act.ensures)

@@ -1,0 +1,180 @@
+//! Who may act.
+ghost use Rattle.std.specs.Prelude.{◌≡◌, ◌↔◌, ◌⊎◌, ◌+◌, ◌<◌, ◌≤◌, List, [], length, Some, IsTrue};
+ghost use Rattle.and_events.specs.declared.event.Held as held;
+ghost use Rattle.and_events.specs.Flow.{queue_at, hand_at};
+ghost use Rattle.and_events.specs.Places as places;
+ghost use Rattle.and_events.specs.Places.{node_count, queue_count, hand_count, IsNode, IsActor};
+ghost use Rattle.and_book.specs.Views.{IsSmall, Handles};
+ghost use Rattle.and_book.specs.Enabling.{CanProgramme, IsBusy, IsStill, IsKnownAtHome, CanDo, IsInjectable, CanAct, Acts, vm_in};
+
+use crate::places::{hand_place, node_of, node_place, queue_place, source};
+use and_events::{Actor, Items, Node, Packet, Settings, Step};
+use and_kept::{Progress, Traffic};
+
+// Whether it is an actor of these settings.
+fn is_actor(settings: Settings, actor: Actor) -> bool
+    ensures { IsTrue result ↔ IsActor settings actor }
+{
+    match actor {
+        Actor::HostInstall(host) | Actor::Coproc(host) => host < settings.hosts,
+        Actor::GateInstall(gateway) | Actor::Gateway(gateway) => gateway < settings.gateways,
+        Actor::Worker { host, index } => host < settings.hosts && index < settings.workers,
+        Actor::Controller | Actor::Driver => true,
+    }
+}
+
+// Whether the node at a place may announce or install.
+fn can_programme(progress: &Progress, node: usize) -> bool
+    requires { node < length progress.now.programmes.ops }
+    ensures { IsTrue result ↔ CanProgramme progress.now.programmes node }
+{
+    let announced = progress.announced(node);
+    let installed = progress.installed(node);
+    let count = progress.programme(node).len();
+    (announced == installed && (announced as usize) < count) || installed < announced
+}
+
+// Whether a packet is in the hand at a place.
+fn has_hand(traffic: &Traffic, hand: usize) -> bool
+    requires { hand < length traffic.now.flow.hands }
+    ensures { IsTrue result ↔ ((h : held.Held) × (hand_at traffic.now.flow.hands hand ≡ Some h)) }
+{
+    match traffic.hand(hand) {
+        Some(_) => true,
+        None => false,
+    }
+}
+
+// Whether a packet is in the queue at a place.
+fn has_queued(traffic: &Traffic, queue: usize) -> bool
+    requires { queue < length traffic.now.flow.queues }
+    ensures { IsTrue result ↔ (queue_at traffic.now.flow.queues queue ≡ [] → ⊥) }
+{
+    !traffic.is_empty(queue)
+}
+
+// Whether one of the two holds.
+fn either(a: bool, b: bool) -> bool
+    ensures { IsTrue result ↔ (IsTrue a ⊎ IsTrue b) }
+{
+    a || b
+}
+
+// Whether the actor has a packet in hand, or finds one in its queue.
+fn is_busy(settings: Settings, traffic: &Traffic, actor: Actor) -> bool
+    requires small { IsSmall settings }
+    requires queues { length traffic.now.flow.queues ≡ queue_count settings }
+    requires hands { length traffic.now.flow.hands ≡ hand_count settings }
+    requires actor { IsActor settings actor }
+    requires handles { Handles actor }
+    ensures { IsTrue result ↔ IsBusy settings traffic.now.flow actor }
+{
+    let hand = hand_place(settings, actor);
+    let queue = source(settings, traffic, actor);
+    let from = queue_place(settings, node_of(actor), queue);
+    let has = has_hand(traffic, hand);
+    let finds = has_queued(traffic, from);
+    either(has, finds)
+}
+
+// Whether all is installed, no packet is queued and none in hand.
+fn is_still(progress: &Progress, traffic: &Traffic) -> bool
+    ensures { IsTrue result ↔ IsStill progress.now.programmes traffic.now.flow }
+{
+    progress.all_installed() && traffic.all_empty() && traffic.all_free()
+}
+
+// Whether the host where the VM is has installed the entry that added it.
+fn is_known_at_home(progress: &Progress, hosts: u32, vm: u32) -> bool
+    requires vm { vm < progress.now.vms }
+    requires nodes { hosts ≤ length progress.now.programmes.ops }
+    ensures { IsTrue result ↔ IsKnownAtHome progress.now.programmes hosts vm }
+{
+    let host = progress.place(vm).unwrap_or(0);
+    match progress.added(vm) {
+        Some(number) => host < hosts && progress.has_installed(host as usize, number),
+        None => false,
+    }
+}
+
+// The source VM of a packet of the plan.
+fn vm_of(packets: &Items<Packet>, packet: u32) -> u32
+    requires { packet < length packets.now }
+    ensures { result ≡ vm_in packets.now packet }
+{
+    match packets.get(packet as usize) {
+        Some(found) => found.vm,
+        None => unreachable!(),
+    }
+}
+
+// Whether the condition of the step that is due holds.
+fn can_do(
+    settings: Settings,
+    packets: &Items<Packet>,
+    progress: &Progress,
+    traffic: &Traffic,
+    due: Option<Step>,
+) -> bool
+    requires nodes { length progress.now.programmes.ops ≡ node_count settings }
+    requires injectable { IsInjectable packets.now progress.now.vms due }
+    ensures { IsTrue result ↔ CanDo settings packets.now progress.now.programmes traffic.now.flow due }
+{
+    match due {
+        Some(Step::Append(_)) => true,
+        Some(Step::Inject { packet }) => {
+            is_known_at_home(progress, settings.hosts, vm_of(packets, packet))
+        }
+        Some(Step::Wait | Step::Finish) => is_still(progress, traffic),
+        _ => false,
+    }
+}
+
+// Whether an actor that is there may act.
+fn acts(
+    settings: Settings,
+    packets: &Items<Packet>,
+    progress: &Progress,
+    traffic: &Traffic,
+    due: Option<Step>,
+    actor: Actor,
+) -> bool
+    requires small { IsSmall settings }
+    requires nodes { length progress.now.programmes.ops ≡ node_count settings }
+    requires queues { length traffic.now.flow.queues ≡ queue_count settings }
+    requires hands { length traffic.now.flow.hands ≡ hand_count settings }
+    requires injectable { IsInjectable packets.now progress.now.vms due }
+    requires actor { IsActor settings actor }
+    ensures { IsTrue result ↔ Acts settings packets.now progress.now.programmes traffic.now.flow due actor }
+{
+    match actor {
+        Actor::HostInstall(host) => can_programme(progress, host as usize),
+        Actor::GateInstall(gateway) => {
+            can_programme(progress, settings.hosts as usize + gateway as usize)
+        }
+        Actor::Controller => false,
+        Actor::Driver => can_do(settings, packets, progress, traffic, due),
+        Actor::Worker { .. } => is_busy(settings, traffic, actor),
+        Actor::Coproc(_) => is_busy(settings, traffic, actor),
+        Actor::Gateway(_) => is_busy(settings, traffic, actor),
+    }
+}
+
+/// Whether the actor may act, by what is kept.
+pub(crate) fn can_act(
+    settings: Settings,
+    packets: &Items<Packet>,
+    progress: &Progress,
+    traffic: &Traffic,
+    due: Option<Step>,
+    actor: Actor,
+) -> bool
+    requires small { IsSmall settings }
+    requires nodes { length progress.now.programmes.ops ≡ node_count settings }
+    requires queues { length traffic.now.flow.queues ≡ queue_count settings }
+    requires hands { length traffic.now.flow.hands ≡ hand_count settings }
+    requires injectable { IsInjectable packets.now progress.now.vms due }
+    ensures { IsTrue result ↔ CanAct settings packets.now progress.now.programmes traffic.now.flow due actor }
+{
+    is_actor(settings, actor) && acts(settings, packets, progress, traffic, due, actor)
+}

@@ -1,5 +1,9 @@
+pub mod BehindLemmas
 pub mod EndLemmas
 pub mod FateLemmas
 pub mod FirstLemmas
 pub mod FreshLemmas
+pub mod LedLemmas
+pub mod LedToLemmas
 pub mod OrderLemmas
+pub mod SendLemmas

@@ -5,18 +5,24 @@
 //! event the first of the enabled actors acted. It stands on the definitions of `and_events` and on the states of `and_plain`.
 #![tactic(auto)]
 
+mod behind;
 mod complete;
 mod fate;
 mod first;
 mod fresh;
+mod led;
 mod order;
 mod placed;
+mod sent;
 
+pub use behind::{Led, Left, egresses, routes};
 pub use complete::is_complete;
 pub use fate::{fate_of, fates};
 pub use fresh::{installed_at_take, is_fresh};
+pub use led::led_to;
 pub use order::is_in_plain_order;
 pub use placed::places;
+pub use sent::sends;
 
 #[cfg(test)]
 mod tests;

@@ -11,6 +11,7 @@ mod fate;
 mod first;
 mod fresh;
 mod led;
+mod loss;
 mod order;
 mod placed;
 mod sent;

@@ -3,6 +3,7 @@ pub mod EndLemmas
 pub mod FateLemmas
 pub mod FirstLemmas
 pub mod FreshLemmas
+pub mod JustLemmas
 pub mod LedLemmas
 pub mod LedToLemmas
 pub mod OrderLemmas

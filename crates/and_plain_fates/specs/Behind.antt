@@ -10,14 +10,18 @@ use Rattle.and_policy.specs.declared.decision.Routed.{Routed}
 use Rattle.and_policy.specs.declared.decision.Routed.TheVariants as routeds
 use Rattle.and_policy.specs.Egress.{egress}
 use Rattle.and_policy.specs.Owners.{routed}
+use Rattle.and_events.specs.declared.event.Actor.{Actor}
+use Rattle.and_events.specs.declared.event.Queue.TheVariants.{Seal}
 use Rattle.and_events.specs.declared.event.End.{End}
+use Rattle.and_events.specs.declared.event.End.TheVariants.{Queued, Full, Hops}
 use Rattle.and_events.specs.declared.event.Departure.TheVariants.{Allowed}
 use Rattle.and_events.specs.declared.event.Passage.TheVariants as passages
 use Rattle.and_events.specs.declared.event.Event.{Event}
 use Rattle.and_events.specs.declared.event.Event.TheVariants.{Egress, Route}
 use Rattle.and_events.specs.declared.plan.Plan.{Plan}
-use Rattle.and_events.specs.Just.{Left, Led, address}
+use Rattle.and_events.specs.Just.{Left, Led, address, IsFull}
 use Rattle.and_events.specs.Legal.{entries_at}
+use Rattle.and_events.specs.Places.{queue_place, node_of}
 use Rattle.and_events.specs.State.{State, packet_at, tuple_at, source_net}
 
 abbrev pub with_egress : Plan → State → ℕ → List Left → Event → List Left
@@ -62,3 +66,9 @@ Leads plan i left leds net =
 -- there is one Egress of the packet, and it leads the packet into this network
 abbrev pub LedOnce : Plan → ℕ → List Left → List Led → ℕ → Type 0
 LedOnce plan i lefts leds net = (left : Left) × (lefts ≡ left ∷ []) × Leads plan i left leds net
+
+-- a packet that is to be sealed ended so: nothing is sent, so no hop can be wanting
+abbrev pub LostAtSeal : Plan → State → Actor → End → Type 0
+LostAtSeal plan s a Queued = Unit {0}
+LostAtSeal plan s a Full = IsFull plan s (queue_place plan.settings (node_of a) Seal)
+LostAtSeal plan s a Hops = ⊥

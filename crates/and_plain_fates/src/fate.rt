@@ -80,8 +80,8 @@ pub fn fate_of(event: &Event) -> Option<u32>
     }
 }
 
-// Whether the event is a fate of the packet.
-fn is_fate(event: &Event, packet: u32) -> bool
+/// Whether the event is a fate of the packet.
+pub(crate) fn is_fate(event: &Event, packet: u32) -> bool
     ensures { result ≡ spec.is_it packet (spec.fate_of event.now) }
 {
     match fate_of(event) {

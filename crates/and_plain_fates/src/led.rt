@@ -12,8 +12,8 @@ use and_policy::plain::{egress, routed};
 use and_policy::{Dest, Entry, Exit, NoMemory, Routed};
 use std::alloc::Global;
 
-// What the route of the packet's source network says under these entries.
-fn routed_from(plan: &Plan, log: &[Entry], packet: u32) -> Routed
+/// What the route of the packet's source network says under these entries.
+pub(crate) fn routed_from(plan: &Plan, log: &[Entry], packet: u32) -> Routed
     ensures { result ≡ behind.routed_from plan.now packet log.now }
 {
     routed(
@@ -23,8 +23,8 @@ fn routed_from(plan: &Plan, log: &[Entry], packet: u32) -> Routed
     )
 }
 
-// What the egress rules say of the packet under these entries.
-fn exit_of(plan: &Plan, log: &[Entry], packet: u32) -> Exit
+/// What the egress rules say of the packet under these entries.
+pub(crate) fn exit_of(plan: &Plan, log: &[Entry], packet: u32) -> Exit
     ensures { result ≡ behind.exit_of plan.now packet log.now }
 {
     let tuple = tuple_at(plan, packet);

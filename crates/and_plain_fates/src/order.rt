@@ -6,6 +6,7 @@ ghost use Rattle.and_events.specs.Ordered as spec;
 ghost use Rattle.and_events.specs.Places as places;
 ghost use Rattle.and_plain.specs.History.{history};
 
+use crate::all::all_three;
 use crate::first::is_first;
 use and_events::{Event, Plan};
 use and_plain::{State, actor_of, after, both, installed_of, is_enabled, node_of, start};
@@ -36,13 +37,6 @@ fn is_due(plan: &Plan, s: &State, event: &Event) -> bool
     let first = is_first(plan, s, actor);
     let installed = is_at_installed(plan, s, event);
     all_three(enabled, first, installed)
-}
-
-// Whether all three hold.
-fn all_three(a: bool, b: bool, c: bool) -> bool
-    ensures { IsTrue result ↔ (IsTrue a × IsTrue b × IsTrue c) }
-{
-    a && b && c
 }
 
 /// Whether at each event, the oldest of which is first, the enabled actor with the smallest number acted, and each decision

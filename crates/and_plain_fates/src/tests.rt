@@ -91,13 +91,15 @@ macro_rules! installed {
 }
 
 mod base;
+mod changes;
 mod plans;
 mod rows;
 
-use crate::{fates, is_complete, is_fresh, is_in_plain_order, places};
+use crate::{fates, is_complete, is_fresh, is_in_plain_order, is_just, places};
 use and_events::{Actor, Arrival, Departure, End, Event, Node, Passage, Plan, Queue, Return};
 use and_plain::{State, first_illegal, state_of};
 use and_policy::{Dest, Name, NoMemory, Way};
+use changes::{Change, DECISIONS, NO_GATEWAY, NUMBERS, PORTS, WAYS_LED};
 use plans::{events, plan};
 use rows::{
     ABSENT, BLACKOUT, DEFAULT_DENY, DELIVERED, DENIED, EMPTY, FULL_QUEUE, HAIRPIN, HOPS, HOVER,
@@ -207,14 +209,15 @@ const WAYS: [(usize, Event); 25] = [
     ),
 ];
 
-/// Whether the packet has one fate, and its decisions are fresh.
+/// Whether the packet has one fate, which has its reason, and its decisions are fresh.
 fn is_settled(alloc: Global, plan: &Plan, events: &[Event], packet: u32) -> Result<bool, NoMemory> {
     let fresh = is_fresh(alloc, plan, events, packet)?;
+    let just = is_just(alloc, plan, events, packet)?;
     let found = fates(alloc, events, packet)?;
-    Ok(fresh && found.len() == 1)
+    Ok(fresh && just && found.len() == 1)
 }
 
-/// Whether every packet has one fate and no place at the end, and its decisions are fresh.
+/// Whether every packet has one fate with its reason and no place at the end, and its decisions are fresh.
 fn are_settled(
     alloc: Global,
     plan: &Plan,
@@ -248,7 +251,7 @@ fn refused_at(alloc: Global, plan: &Plan, events: &[Event]) -> Result<Option<usi
     first_illegal(alloc, plan, events)
 }
 
-/// A whole run in the plain order: every packet has one fate and no place, and its decisions are fresh.
+/// A whole run in the plain order: every packet has one fate with its reason and no place, and its decisions are fresh.
 fn check(rt: &impl Abort, alloc: Global, row: Row) -> Result<(), Fail> {
     let plan = plan(alloc, row)?;
     let events = events(alloc, row)?;
@@ -326,5 +329,92 @@ fn changed_moments(rt: HostRuntime) -> Result<(), Fail> {
     let plan = plan(alloc, TWO_TO_ONE_HOST)?;
     let events = events(alloc, TWO_TO_ONE_HOST)?;
     assert_eq!(rt; refused_at(alloc, &plan, &events)?, None);
+    Ok(())
+}
+
+/// Up to the change the events are a run in which the packet's fates have their reasons and its decisions are fresh. The
+/// changed event leaves its decision fresh, and its fate without a reason.
+fn has_no_reason(rt: &impl Abort, alloc: Global, change: &Change) -> Result<(), Fail> {
+    let plan = plan(alloc, change.row)?;
+    let mut events = events(alloc, change.row)?;
+    assert!(rt; change.at < events.len());
+    let end = change.at + 1;
+    events[change.at] = change.right;
+    assert_eq!(rt; refused_at(alloc, &plan, &events[..end])?, None);
+    assert!(rt; is_just(alloc, &plan, &events[..end], change.packet)?);
+    events[change.at] = change.wrong;
+    assert!(rt; !is_just(alloc, &plan, &events[..end], change.packet)?);
+    assert!(rt; is_fresh(alloc, &plan, &events[..end], change.packet)?);
+    Ok(())
+}
+
+#[test]
+fn changed_decisions(rt: HostRuntime) -> Result<(), Fail> {
+    for change in &DECISIONS {
+        has_no_reason(&rt, rt.alloc(), change)?;
+    }
+    Ok(())
+}
+
+#[test]
+fn changed_ports(rt: HostRuntime) -> Result<(), Fail> {
+    for change in &PORTS {
+        has_no_reason(&rt, rt.alloc(), change)?;
+    }
+    Ok(())
+}
+
+/// With a changed decision on the way the packet is delivered without a reason.
+fn leads_astray(rt: &impl Abort, alloc: Global, change: &Change) -> Result<(), Fail> {
+    let plan = plan(alloc, change.row)?;
+    let mut events = events(alloc, change.row)?;
+    assert!(rt; change.at < events.len());
+    assert!(rt; events[change.at] == change.right);
+    events[change.at] = change.wrong;
+    assert!(rt; is_just(alloc, &plan, &events[..change.at + 1], change.packet)?);
+    assert!(rt; !is_just(alloc, &plan, &events, change.packet)?);
+    Ok(())
+}
+
+#[test]
+fn changed_ways_led(rt: HostRuntime) -> Result<(), Fail> {
+    for change in &WAYS_LED {
+        leads_astray(&rt, rt.alloc(), change)?;
+    }
+    Ok(())
+}
+
+/// Up to the change the packet's decisions are fresh, and with the changed event one is not.
+fn is_stale(rt: &impl Abort, alloc: Global, change: &Change) -> Result<(), Fail> {
+    let plan = plan(alloc, change.row)?;
+    let mut events = events(alloc, change.row)?;
+    assert!(rt; change.at < events.len());
+    let end = change.at + 1;
+    assert!(rt; events[change.at] == change.right);
+    assert!(rt; is_fresh(alloc, &plan, &events[..end], change.packet)?);
+    events[change.at] = change.wrong;
+    assert!(rt; !is_fresh(alloc, &plan, &events[..end], change.packet)?);
+    assert!(rt; is_just(alloc, &plan, &events[..end], change.packet)?);
+    Ok(())
+}
+
+#[test]
+fn changed_numbers(rt: HostRuntime) -> Result<(), Fail> {
+    for change in &NUMBERS {
+        is_stale(&rt, rt.alloc(), change)?;
+    }
+    Ok(())
+}
+
+#[test]
+fn without_a_gateway(rt: HostRuntime) -> Result<(), Fail> {
+    let alloc = rt.alloc();
+    let plan = plan(alloc, NO_GATEWAY.row)?;
+    let mut events = events(alloc, NO_GATEWAY.row)?;
+    assert!(rt; NO_GATEWAY.at < events.len());
+    events[NO_GATEWAY.at] = NO_GATEWAY.right;
+    assert!(rt; is_just(alloc, &plan, &events, NO_GATEWAY.packet)?);
+    events[NO_GATEWAY.at] = NO_GATEWAY.wrong;
+    assert!(rt; !is_just(alloc, &plan, &events, NO_GATEWAY.packet)?);
     Ok(())
 }

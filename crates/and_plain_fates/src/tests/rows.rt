@@ -85,7 +85,7 @@ const UDP_RULE: Entry = Entry::AddRule {
     rule: NO_UDP,
 };
 
-const LOST: Arrival = Arrival::Blackout { vm: 1 };
+pub(crate) const LOST: Arrival = Arrival::Blackout { vm: 1 };
 
 const FOLLOWS: Arrival = Arrival::Hairpin {
     vm: 1,
@@ -110,13 +110,13 @@ const FREE_H0: Step = Step::Free {
     what: What::Install,
 };
 
-const GONE: Arrival = Arrival::Absent {
+pub(crate) const GONE: Arrival = Arrival::Absent {
     vm: 1,
     gateway: 0,
     end: End::Queued,
 };
 
-const BACK: Return = Return::Send {
+pub(crate) const BACK: Return = Return::Send {
     host: 0,
     end: End::Queued,
 };
@@ -146,14 +146,14 @@ const GO_H0: Step = Step::Free {
     what: What::Forward,
 };
 
-const SPENT: Passage = Passage::Hops { by: Name::Implied };
+pub(crate) const SPENT: Passage = Passage::Hops { by: Name::Implied };
 
 const ONE_HOP: Settings = Settings {
     hop_limit: 1,
     ..SETTINGS
 };
 
-const TO_BE_SEALED: Departure = Departure::Allowed {
+pub(crate) const TO_BE_SEALED: Departure = Departure::Allowed {
     by: Name::Rule(2),
     sealed: true,
     dest: HOVER,

@@ -1,6 +1,5 @@
 -- A packet that has come for a VM and is settled: the event is legal, and what is kept after it.
-use Rattle.std.proofs.Common.{◌≡◌, ℕ, ◌+◌, ◌<◌, Bool, List, length, refl, sym, ap, ◌∙◌, subst, arith, inl, inr, Some}
-use Rattle.std.specs.List.{All}
+use Rattle.std.proofs.Common.{◌≡◌, ℕ, ◌+◌, ◌<◌, Bool, length, refl, ap, ◌∙◌, arith, inl, inr, Some}
 use Rattle.and_policy.specs.declared.decision.Name.{Name}
 use Rattle.and_policy.specs.declared.decision.Landing.{Landing}
 use Rattle.and_policy.specs.declared.decision.Landing.TheVariants as landings
@@ -8,7 +7,6 @@ use Rattle.and_policy.specs.declared.decision.Way.{Way}
 use Rattle.and_policy.specs.declared.port.Port.{Port}
 use Rattle.and_policy.specs.declared.port.Port.TheVariants as port_states
 use Rattle.and_policy.specs.FlowHash.{gateway_of}
-use Rattle.and_parcel.specs.Parcels.{ParcelView}
 use Rattle.and_events.specs.declared.event.Actor.{Actor}
 use Rattle.and_events.specs.declared.event.Arrival.{Arrival}
 use Rattle.and_events.specs.declared.event.Arrival.TheVariants as arrivals
@@ -26,10 +24,9 @@ use Rattle.and_events.specs.State.{State, after, move_of, word_of, ports_move_of
 use Rattle.and_events.specs.Legal.{Legal, Decides, Arrives}
 use Rattle.and_laws.specs.Fates.{in_hand_count}
 use Rattle.and_kept.specs.Lanes.{Roads}
-use Rattle.and_book.specs.Settling.{queue_to, arrival_at, arrival_of, parcels_arrived, LeadsPort, LeadsLanding, landing_said, ingress_event}
+use Rattle.and_book.specs.Settling.{queue_to, arrival_at, arrival_of, LeadsPort, LeadsLanding, landing_said, ingress_event}
 use Rattle.and_book.specs.Inside.{Kept, Stands}
 use Rattle.and_book.proofs.Ends.{Within, sends_end}
-use Rattle.and_book.proofs.Injecting.{all_after}
 use Rattle.and_book.proofs.Settled.{lets_go, send_lets_go}
 use Rattle.and_book.proofs.More.{IsAfter}
 
@@ -75,6 +72,12 @@ after_ingress plan s k roads a i hand at way x st there moved same =
       nets = refl;
     }
 
+-- the move that is made is the event's
+pub move_ingress : (plan : Plan) (s : State) (f : Flow) (a : Actor) (i hand at : ℕ) (way : Way) (x : Arrival) → f ≡ s.flow → hand ≡ hand_place plan.settings a → arrives plan.settings (carried_in f.carried i) hand i x ≡ move_of plan s (Ingress a i at way x)
+unfolding move_of
+move_ingress plan s f a i hand at way x flow there =
+    ap (λ g. arrives plan.settings (carried_in g.carried i) hand i x) flow ∙ ap (λ n. arrives plan.settings (carried_in s.flow.carried i) n i x) there
+
 pub arrives_lets_go : (v : Settings) (f f' : Flow) (hand i : ℕ) (x : Arrival) (h : Held) → hand < length f.hands → hand_at f.hands hand ≡ Some h → f' ≡ flow_after f (arrives v (carried_in f.carried i) hand i x) → in_hand_count f' + 1 ≡ in_hand_count f
 unfolding flow_after
 arrives_lets_go v f f' hand i (arrivals.Hairpin vm host end) h there is moved =
@@ -84,13 +87,3 @@ arrives_lets_go v f f' hand i (arrivals.Absent vm g end) h there is moved =
 arrives_lets_go v f f' hand i arrivals.NoOwner h there is moved = ap (λ y. in_hand_count y + 1) moved ∙ lets_go f hand h there is
 arrives_lets_go v f f' hand i (arrivals.Running vm by pass) h there is moved = ap (λ y. in_hand_count y + 1) moved ∙ lets_go f hand h there is
 arrives_lets_go v f f' hand i (arrivals.Blackout vm) h there is moved = ap (λ y. in_hand_count y + 1) moved ∙ lets_go f hand h there is
-
-pub all_arrived : (P : ParcelView → Type 0) (v : Settings) (parcels parcels' : List (List ParcelView)) (p : ParcelView) (x : Arrival) → parcels' ≡ parcels_arrived v parcels p x → P p → All (λ ps. All P ps) parcels → All (λ ps. All P ps) parcels'
-all_arrived P v parcels parcels' p x is ok all = subst (All (λ ps. All P ps)) (sym is) (by_kind x)
-  where
-    by_kind : (y : Arrival) → All (λ ps. All P ps) (parcels_arrived v parcels p y)
-    by_kind (arrivals.Hairpin vm host end) = all_after P parcels (queue_to v (endpoints.Host host)) p end ok all
-    by_kind (arrivals.Absent vm g end) = all_after P parcels (queue_to v (endpoints.Redirect g)) p end ok all
-    by_kind arrivals.NoOwner = all
-    by_kind (arrivals.Running vm by pass) = all
-    by_kind (arrivals.Blackout vm) = all

@@ -1,6 +1,5 @@
 -- A packet that leaves a VM and is settled: the event is legal, and what is kept after it.
-use Rattle.std.proofs.Common.{◌≡◌, ℕ, ◌+◌, ◌<◌, Bool, true, false, List, length, refl, sym, ap, ◌∙◌, subst, arith, Option, Some, None}
-use Rattle.std.specs.List.{All}
+use Rattle.std.proofs.Common.{◌≡◌, ℕ, ◌+◌, ◌<◌, ◌^◌, Bool, true, false, List, length, refl, ap, ◌∙◌, subst, arith, Option, Some, None}
 use Rattle.and_policy.specs.declared.decision.Dest.{Dest}
 use Rattle.and_policy.specs.declared.decision.Exit.{Exit}
 use Rattle.and_policy.specs.declared.decision.Exit.TheVariants as exits
@@ -14,7 +13,6 @@ use Rattle.and_policy.specs.Egress.{egress}
 use Rattle.and_policy.specs.Logs.{vm_of}
 use Rattle.and_policy.specs.Programmes.{prefix, live, own_net, dest_by, leaving_by}
 use Rattle.and_policy.specs.Routes.{route}
-use Rattle.and_parcel.specs.Parcels.{ParcelView}
 use Rattle.and_events.specs.declared.event.Actor.{Actor}
 use Rattle.and_events.specs.declared.event.Actor.TheVariants.{HostInstall, GateInstall, Worker, Coproc, Gateway, Controller, Driver}
 use Rattle.and_events.specs.declared.event.Departure.{Departure}
@@ -41,10 +39,10 @@ use Rattle.and_events.specs.Sound.{IsSound, IsBuilt}
 use Rattle.and_laws.specs.Fates.{in_hand_count}
 use Rattle.and_laws.proofs.Offloading.{right_orders}
 use Rattle.and_kept.specs.Lanes.{Roads}
-use Rattle.and_book.specs.Settling.{queue_to, departs_end, departure_of, parcels_departed, LeadsRouted, LeadsLeaving, leaving_said, egress_event}
+use Rattle.and_book.specs.Settling.{queue_to, departs_end, departure_of, LeadsRouted, LeadsLeaving, leaving_said, egress_event}
 use Rattle.and_book.specs.Inside.{Kept, Stands}
 use Rattle.and_book.proofs.Ends.{Within, ends_at, sends_end}
-use Rattle.and_book.proofs.Injecting.{all_after}
+use Rattle.and_book.proofs.Carrying.{own_fits}
 use Rattle.and_book.proofs.Leading.{known_entries, leads_by}
 use Rattle.and_book.proofs.Settled.{lets_go, send_lets_go, worker_node}
 use Rattle.and_book.proofs.More.{IsAfter}
@@ -64,14 +62,18 @@ leads_dest : (v : Settings) (x : Tuple) (o : Option Order) → 0 < v.gateways �
 leads_dest v x None some known = omega (arith, some)
 leads_dest v x (Some order) some known = known order refl
 
-leads_exit : (v : Settings) (x : Exit) (dest : Dest) → IsNode v (node_at (dest_endpoint dest)) → LeadsLeaving v (leaving_by x dest)
-leads_exit v exits.NoVm dest there = tt
-leads_exit v exits.Spoofed dest there = tt
-leads_exit v (exits.Denied n) dest there = tt
-leads_exit v (exits.Allowed by sealed) dest there = there
+leads_exit : (v : Settings) (own : ℕ) (x : Exit) (dest : Dest) → IsNode v (node_at (dest_endpoint dest)) → dest_net own dest < 2 ^ 24 → LeadsLeaving v own (leaving_by x dest)
+leads_exit v own exits.NoVm dest there fits = tt
+leads_exit v own exits.Spoofed dest there fits = tt
+leads_exit v own (exits.Denied n) dest there fits = tt
+leads_exit v own (exits.Allowed by sealed) dest there fits = (there, fits)
+
+fits_dest : (gateways own : ℕ) (x : Tuple) (o : Option Order) → own < 2 ^ 24 → ((order : Order) → o ≡ Some order → order.to_net < 2 ^ 24) → dest_net own (dest_by gateways x o) < 2 ^ 24
+fits_dest gateways own x None fits known = fits
+fits_dest gateways own x (Some order) fits known = known order refl
 
 -- a live order leads to a host that is there, as the route leads there, and so does the flow hash to a gateway
-pub leads_leaving : (plan : Plan) (h : List Event) (a : Actor) (i at : ℕ) → IsSound plan → IsBuilt plan → Run plan h → IsActor plan.settings a → IsWorker a → LeadsLeaving plan.settings (leaving_said plan (state plan h) a i at)
+pub leads_leaving : (plan : Plan) (h : List Event) (a : Actor) (i at : ℕ) → IsSound plan → IsBuilt plan → Run plan h → IsActor plan.settings a → IsWorker a → LeadsLeaving plan.settings (source_net plan i) (leaving_said plan (state plan h) a i at)
 leads_leaving plan h a i at sound built r actor worker =
     let p = programme_of plan (state plan h) (node_of a) in
     let k = prefix p at in
@@ -80,11 +82,13 @@ leads_leaving plan h a i at sound built r actor worker =
     let net = own_net (vm_of k vm) in
     let node = worker_node plan.settings a worker actor in
     let known = known_entries plan h a at sound built r node in
-    leads_exit plan.settings (egress k vm x) (dest_by plan.settings.gateways x (live p at net x.destination))
-    (leads_dest plan.settings x (live p at net x.destination) sound.settings.gateways.0
-    (λ order is.
+    let leads : (order : Order) → live p at net x.destination ≡ Some order → (order.to_host < plan.settings.hosts) × (order.to_net < 2 ^ 24) =
+    λ order is.
     let right = right_orders plan h sound r (node_of a) node at net x.destination order is in
-    subst (LeadsRouted plan.settings) right.1 (leads_by plan k x.destination (route k net x.destination) known)))
+    subst (LeadsRouted plan.settings) right.1 (leads_by plan k x.destination (route k net x.destination) known) in
+    leads_exit plan.settings (source_net plan i) (egress k vm x) (dest_by plan.settings.gateways x (live p at net x.destination))
+    (leads_dest plan.settings x (live p at net x.destination) sound.settings.gateways.0 (λ order is. (leads order is).0))
+    (fits_dest plan.settings.gateways (source_net plan i) x (live p at net x.destination) (own_fits plan i sound built) (λ order is. (leads order is).1))
 
 -- ---- legal
 
@@ -102,20 +106,20 @@ departs_by plan s here i by false dest node seals hops leads sized w =
     let sends = sends_end plan s i target leads sized w in
     (refl, (λ e. let none : (carried_at s i).hops ≡ 0 = subst (Sends plan s i target) e sends in omega (arith, none, hops)), sends)
 
-departs_so : (plan : Plan) (s : State) (here : Node) (i : ℕ) (said : Leaving) → IsNode plan.settings here → HasQueue here Seal → 0 < (carried_at s i).hops → LeadsLeaving plan.settings said → length s.flow.queues ≡ queue_count plan.settings → Within plan s
+departs_so : (plan : Plan) (s : State) (here : Node) (i own : ℕ) (said : Leaving) → IsNode plan.settings here → HasQueue here Seal → 0 < (carried_at s i).hops → LeadsLeaving plan.settings own said → length s.flow.queues ≡ queue_count plan.settings → Within plan s
     → Departs plan s here i said (departure_of plan.settings s.flow here i said)
-departs_so plan s here i leavings.NoVm node seals hops leads sized w = refl
-departs_so plan s here i leavings.Spoofed node seals hops leads sized w = refl
-departs_so plan s here i (leavings.Denied n) node seals hops leads sized w = refl
-departs_so plan s here i (leavings.Allowed by sealed dest) node seals hops leads sized w = departs_by plan s here i by sealed dest node seals hops leads sized w
+departs_so plan s here i own leavings.NoVm node seals hops leads sized w = refl
+departs_so plan s here i own leavings.Spoofed node seals hops leads sized w = refl
+departs_so plan s here i own (leavings.Denied n) node seals hops leads sized w = refl
+departs_so plan s here i own (leavings.Allowed by sealed dest) node seals hops leads sized w = departs_by plan s here i by sealed dest node seals hops leads.0 sized w
 
-pub legal_egress : (plan : Plan) (s : State) (a : Actor) (i at : ℕ) (way : Way) → Decides plan s a i Out at → IsWorker a → 0 < (carried_at s i).hops → LeadsLeaving plan.settings (leaving_said plan s a i at) → length s.flow.queues ≡ queue_count plan.settings → Within plan s
+pub legal_egress : (plan : Plan) (s : State) (a : Actor) (i at : ℕ) (way : Way) → Decides plan s a i Out at → IsWorker a → 0 < (carried_at s i).hops → LeadsLeaving plan.settings (source_net plan i) (leaving_said plan s a i at) → length s.flow.queues ≡ queue_count plan.settings → Within plan s
     → Legal plan s (egress_event plan s a i at way)
 unfolding Legal
 legal_egress plan s a i at way decides worker hops leads sized w = (
   decides,
   worker,
-  departs_so plan s (node_of a) i (leaving_said plan s a i at) (worker_node plan.settings a worker decides.actor) (seals_at a worker) hops leads sized w,
+  departs_so plan s (node_of a) i (source_net plan i) (leaving_said plan s a i at) (worker_node plan.settings a worker decides.actor) (seals_at a worker) hops leads sized w,
 )
 
 -- ---- after it
@@ -141,6 +145,14 @@ after_egress plan s k roads a i hand own at here way x st there net node moved s
       nets = refl;
     }
 
+-- the move that is made is the event's
+pub move_egress : (plan : Plan) (s : State) (a : Actor) (i hand own at : ℕ) (here : Node) (way : Way) (x : Departure) → hand ≡ hand_place plan.settings a → own ≡ source_net plan i → here ≡ node_of a → departs plan.settings own hand i here x ≡ move_of plan s (Egress a i at way x)
+unfolding move_of
+move_egress plan s a i hand own at here way x there net node =
+    ap (λ n. departs plan.settings own n i here x) there
+    ∙ (ap (λ n. departs plan.settings n (hand_place plan.settings a) i here x) net
+    ∙ ap (λ n. departs plan.settings (source_net plan i) (hand_place plan.settings a) i n x) node)
+
 seal_lets_go : (f : Flow) (hand q i net : ℕ) (end : End) (target : Endpoint) (h : Held) → hand < length f.hands → hand_at f.hands hand ≡ Some h → in_hand_count (flow_after f (seal_by hand q i end net target)) + 1 ≡ in_hand_count f
 unfolding flow_after
 seal_lets_go f hand q i net Queued target h there is = lets_go f hand h there is
@@ -156,13 +168,3 @@ departs_lets_go v f f' hand i own here (departures.Allowed by false dest end) h 
 departs_lets_go v f f' hand i own here departures.NoVm h there is moved = ap (λ y. in_hand_count y + 1) moved ∙ lets_go f hand h there is
 departs_lets_go v f f' hand i own here departures.Spoofed h there is moved = ap (λ y. in_hand_count y + 1) moved ∙ lets_go f hand h there is
 departs_lets_go v f f' hand i own here (departures.Denied n) h there is moved = ap (λ y. in_hand_count y + 1) moved ∙ lets_go f hand h there is
-
-pub all_departed : (P : ParcelView → Type 0) (v : Settings) (parcels parcels' : List (List ParcelView)) (here : Node) (p : ParcelView) (x : Departure) → parcels' ≡ parcels_departed v parcels here p x → P p → All (λ ps. All P ps) parcels → All (λ ps. All P ps) parcels'
-all_departed P v parcels parcels' here p x is ok all = subst (All (λ ps. All P ps)) (sym is) (by_kind x)
-  where
-    by_kind : (y : Departure) → All (λ ps. All P ps) (parcels_departed v parcels here p y)
-    by_kind (departures.Allowed by true dest end) = all_after P parcels (queue_place v here Seal) p end ok all
-    by_kind (departures.Allowed by false dest end) = all_after P parcels (queue_to v (dest_endpoint dest)) p end ok all
-    by_kind departures.NoVm = all
-    by_kind departures.Spoofed = all
-    by_kind (departures.Denied n) = all

@@ -3,9 +3,7 @@ use Rattle.std.proofs.Common.{◌≡◌, ℕ, Bool, true, false, cond, List, [],
 use Rattle.std.specs.List.{All}
 use Rattle.std.proofs.lemmas.List.Elements.{All-set, All-push}
 use Rattle.and_parcel.specs.Parcels.{ParcelView}
-use Rattle.and_events.specs.declared.event.End.{End}
-use Rattle.and_events.specs.declared.event.End.TheVariants as ends
-use Rattle.and_kept.specs.Lanes.{parcels_at, with_parcel, parcels_after}
+use Rattle.and_kept.specs.Lanes.{parcels_at, with_parcel}
 use Rattle.and_book.proofs.Taking.{all_at}
 
 pub all_with : (P : ParcelView → Type 0) (parcels : List (List ParcelView)) (q : ℕ) (p : ParcelView) → P p → All (λ ps. All P ps) parcels → All (λ ps. All P ps) (with_parcel parcels q p)
@@ -19,8 +17,3 @@ choose P false xs ys p q = q
 pub all_entered : (P : ParcelView → Type 0) (parcels parcels' : List (List ParcelView)) (q : ℕ) (p : ParcelView) (full : Bool) → parcels' ≡ cond full parcels (with_parcel parcels q p) → P p → All (λ ps. All P ps) parcels → All (λ ps. All P ps) parcels'
 all_entered P parcels parcels' q p full is ok all =
     subst (All (λ ps. All P ps)) (sym is) (choose (All (λ ps. All P ps)) full parcels (with_parcel parcels q p) all (all_with P parcels q p ok all))
-
-pub all_after : (P : ParcelView → Type 0) (parcels : List (List ParcelView)) (q : ℕ) (p : ParcelView) (end : End) → P p → All (λ ps. All P ps) parcels → All (λ ps. All P ps) (parcels_after parcels q p end)
-all_after P parcels q p ends.Queued ok all = all_with P parcels q p ok all
-all_after P parcels q p ends.Full ok all = all
-all_after P parcels q p ends.Hops ok all = all

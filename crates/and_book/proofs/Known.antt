@@ -1,5 +1,5 @@
 -- What the log of a built plan has: the numbers of its entries are in their ranges.
-use Rattle.std.proofs.Common.{◌≡◌, ℕ, zero, suc, ◌<◌, ◌≤◌, true, List, [], ◌∷◌, length, take, get_or, refl, sym, subst, arith, Option, Some, None}
+use Rattle.std.proofs.Common.{◌≡◌, ℕ, zero, suc, ◌<◌, ◌≤◌, true, false, List, [], ◌∷◌, length, take, get_or, refl, sym, subst, arith, Option, Some, None}
 use Rattle.std.specs.Prelude.{slice_get, position, option_map}
 use Rattle.std.specs.List.{All}
 use Rattle.std.proofs.lemmas.Bool.{eqb-true}
@@ -20,11 +20,11 @@ use Rattle.and_laws.specs.Scripted.{script_after_steps}
 use Rattle.and_laws.proofs.Following.{follows_steps}
 use Rattle.and_laws.proofs.StepFacts.{added_anew}
 
--- a VM that is added has a name, a network within its 24 bits, and a host that is there
+-- a VM that is added has a name, a network within its 24 bits, and a host that is there; no rule seals
 abbrev pub IsKnown : Plan → Entry → Type 0
 IsKnown plan (entries.AddNet net) = Unit {0}
 IsKnown plan (entries.AddVm vm net mac ip host) = (vm < length plan.names) × (net ≤ 16777215) × (host < plan.settings.hosts)
-IsKnown plan (entries.AddRule net rule) = Unit {0}
+IsKnown plan (entries.AddRule net rule) = rule.sealed ≡ false
 IsKnown plan _ = ⊥
 
 known_script : (plan : Plan) (p : Script) (sent : ℕ) (ss : List Step) (n : ℕ) → StepsFit plan p sent ss → All IsBuiltStep ss → All (IsKnown plan) p.log → All (IsKnown plan) (script_after_steps p (take n ss)).log
@@ -40,7 +40,7 @@ known_script plan p sent (Append (entries.AddVm vm net mac ip host) ∷ later) (
     known_script plan _ _ later n f.1 (All-tail IsBuiltStep _ later built)
     (All-push (IsKnown plan) p.log (entries.AddVm vm net mac ip host) known (f.0.1.0, f.0.1.1.1, (added_anew plan p vm net mac ip host f.0.0).1))
 known_script plan p sent (Append (entries.AddRule net rule) ∷ later) (suc n) f built known =
-    known_script plan _ _ later n f.1 (All-tail IsBuiltStep _ later built) (All-push (IsKnown plan) p.log (entries.AddRule net rule) known tt)
+    known_script plan _ _ later n f.1 (All-tail IsBuiltStep _ later built) (All-push (IsKnown plan) p.log (entries.AddRule net rule) known (All-head IsBuiltStep _ later built))
 known_script plan p sent (Wait ∷ later) (suc n) f built known = known_script plan _ _ later n f.1 (All-tail IsBuiltStep _ later built) known
 known_script plan p sent (Inject i ∷ later) (suc n) f built known = known_script plan _ _ later n f.1 (All-tail IsBuiltStep _ later built) known
 known_script plan p sent (step ∷ later) (suc n) f built known = absurd (All-head IsBuiltStep step later built)
@@ -60,7 +60,7 @@ known_to_end plan p sent (Append (entries.AddVm vm net mac ip host) ∷ later) f
     known_to_end plan _ _ later f.1 (All-tail IsBuiltStep _ later built)
     (All-push (IsKnown plan) p.log (entries.AddVm vm net mac ip host) known (f.0.1.0, f.0.1.1.1, (added_anew plan p vm net mac ip host f.0.0).1))
 known_to_end plan p sent (Append (entries.AddRule net rule) ∷ later) f built known =
-    known_to_end plan _ _ later f.1 (All-tail IsBuiltStep _ later built) (All-push (IsKnown plan) p.log (entries.AddRule net rule) known tt)
+    known_to_end plan _ _ later f.1 (All-tail IsBuiltStep _ later built) (All-push (IsKnown plan) p.log (entries.AddRule net rule) known (All-head IsBuiltStep _ later built))
 known_to_end plan p sent (Wait ∷ later) f built known = known_to_end plan _ _ later f.1 (All-tail IsBuiltStep _ later built) known
 known_to_end plan p sent (Inject i ∷ later) f built known = known_to_end plan _ _ later f.1 (All-tail IsBuiltStep _ later built) known
 known_to_end plan p sent (step ∷ later) f built known = absurd (All-head IsBuiltStep step later built)

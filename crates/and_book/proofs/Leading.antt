@@ -1,6 +1,8 @@
 -- Where the policy's words lead in a built plan.
-use Rattle.std.proofs.Common.{◌≡◌, ℕ, zero, suc, ◌<◌, List, [], ◌∷◌, take, refl, sym, subst, arith, Option, Some, None}
-use Rattle.std.specs.List.{All}
+use Rattle.std.proofs.Common.{◌≡◌, ℕ, zero, suc, ◌<◌, ◌≤◌, ◌^◌, ◌==◌, ◌&&◌, true, false, List, [], ◌∷◌, take, refl, sym, subst, arith, Option, Some, None}
+use Rattle.std.specs.Prelude.{if◌then◌else◌, option_map}
+use Rattle.std.specs.List.{All, find, list_any}
+use Rattle.std.proofs.lemmas.Bool.{eqb-true, and_parts}
 use Rattle.std.proofs.lemmas.List.Elements.{All-nil, All-cons, All-head, All-tail}
 use Rattle.and_policy.specs.declared.decision.GateDecision.{GateDecision}
 use Rattle.and_policy.specs.declared.decision.GateDecision.TheVariants as decisions
@@ -11,6 +13,7 @@ use Rattle.and_policy.specs.declared.entry.Entry.{Entry}
 use Rattle.and_policy.specs.declared.entry.Entry.TheVariants as entry_kinds
 use Rattle.and_policy.specs.declared.entry.Op.{Op}
 use Rattle.and_policy.specs.declared.entry.Op.TheVariants as ops
+use Rattle.and_policy.specs.Logs.{Vm, vms, removes}
 use Rattle.and_policy.specs.Owners.{place, host_by, or_else, owner, owner_place, routed_at, routed_by, located_at}
 use Rattle.and_policy.specs.Programmes.{entries}
 use Rattle.and_policy.specs.Routes.{route}
@@ -57,6 +60,47 @@ owner_known plan k net address host known is =
       | Some vm ↦ λ e. place_known plan k vm host known (rw e at is)
     ] refl
 
+-- ---- networks
+
+fits_entry : (plan : Plan) (e : Entry) (later : List Entry) → IsKnown plan e → All (λ (v : Vm). v.net ≤ 16777215) (vms later) → All (λ (v : Vm). v.net ≤ 16777215) (vms (e ∷ later))
+fits_entry plan (entry_kinds.AddVm v net mac ip h) later known fit =
+    let it : Vm = record { number = v; net = net; mac = mac; ip = ip; host = h } in
+    elim (list_any (removes v) later) as (λ b. All (λ (x : Vm). x.net ≤ 16777215) (if b then vms later else it ∷ vms later)) [
+      | true ↦ fit
+      | false ↦ All-cons (λ (x : Vm). x.net ≤ 16777215) it (vms later) known.1 fit
+    ]
+fits_entry plan (entry_kinds.AddNet net) later known fit = fit
+fits_entry plan (entry_kinds.AddRule net rule) later known fit = fit
+fits_entry plan (entry_kinds.RemoveVm v) later known fit = absurd known
+fits_entry plan (entry_kinds.Place v h) later known fit = absurd known
+fits_entry plan (entry_kinds.DelRule net number) later known fit = absurd known
+fits_entry plan (entry_kinds.AddRoute net r) later known fit = absurd known
+fits_entry plan (entry_kinds.DelRoute net number) later known fit = absurd known
+fits_entry plan entry_kinds.Tick later known fit = absurd known
+
+vms_fit : (plan : Plan) (k : List Entry) → All (IsKnown plan) k → All (λ (v : Vm). v.net ≤ 16777215) (vms k)
+vms_fit plan [] known = All-nil (λ (v : Vm). v.net ≤ 16777215)
+vms_fit plan (e ∷ later) known = fits_entry plan e later (All-head (IsKnown plan) e later known) (vms_fit plan later (All-tail (IsKnown plan) e later known))
+
+same_net : (a b c d : ℕ) → ((a == b) && (c == d)) ≡ true → a ≡ b
+same_net a b c d e = eqb-true a b (and_parts (a == b) (c == d) e).0
+
+-- the network of a VM that is found fits its 24 bits
+found_fits : (xs : List Vm) (net address vm : ℕ) → All (λ (v : Vm). v.net ≤ 16777215) xs → option_map (λ (v : Vm). v.number) (find (λ (v : Vm). (v.net == net) && (v.ip == address)) xs) ≡ Some vm → net < 2 ^ 24
+found_fits [] net address vm fit is = absurd (cc)
+found_fits (x ∷ xs) net address vm fit is =
+    elim ((x.net == net) && (x.ip == address)) as (λ b. (((x.net == net) && (x.ip == address)) ≡ b → net < 2 ^ 24)) [
+      | true ↦ λ e. omega (arith, same_net x.net net x.ip address e, All-head (λ (v : Vm). v.net ≤ 16777215) x xs fit)
+      | false ↦ λ e. found_fits xs net address vm (All-tail (λ (v : Vm). v.net ≤ 16777215) x xs fit) (rw e at is)
+    ] refl
+
+owner_fits : (plan : Plan) (k : List Entry) (net address host : ℕ) → All (IsKnown plan) k → owner_place k net address ≡ Some host → net < 2 ^ 24
+owner_fits plan k net address host known is =
+    elim (owner k net address) as (λ o. (owner k net address ≡ o → net < 2 ^ 24)) [
+      | None ↦ λ e. absurd (cc (rw e at is))
+      | Some vm ↦ λ e. found_fits (vms k) net address vm (vms_fit plan k known) e
+    ] refl
+
 -- ---- prefixes
 
 taken : (P : Entry → Type 0) (p : List Op) (j : ℕ) → All P (entries p) → All P (entries (take j p))
@@ -74,13 +118,13 @@ known_entries plan h a at sound built r there =
 
 -- ---- words
 
-leads_at : (plan : Plan) (by : Name) (net : ℕ) (o : Option ℕ) → ((host : ℕ) → o ≡ Some host → host < plan.settings.hosts) → LeadsRouted plan.settings (routed_at by net o)
+leads_at : (plan : Plan) (by : Name) (net : ℕ) (o : Option ℕ) → ((host : ℕ) → o ≡ Some host → (host < plan.settings.hosts) × (net < 2 ^ 24)) → LeadsRouted plan.settings (routed_at by net o)
 leads_at plan by net None known = tt
 leads_at plan by net (Some host) known = known host refl
 
 pub leads_by : (plan : Plan) (k : List Entry) (address : ℕ) (r : Routing) → All (IsKnown plan) k → LeadsRouted plan.settings (routed_by k address r)
 leads_by plan k address (routings.Dropped by) known = tt
-leads_by plan k address (routings.Into by net) known = leads_at plan by net (owner_place k net address) (λ host e. owner_known plan k net address host known e)
+leads_by plan k address (routings.Into by net) known = leads_at plan by net (owner_place k net address) (λ host e. (owner_known plan k net address host known e, owner_fits plan k net address host known e))
 
 leads_located : (plan : Plan) (o : Option ℕ) → ((host : ℕ) → o ≡ Some host → host < plan.settings.hosts) → LeadsLocated plan.settings (located_at o)
 leads_located plan None known = tt

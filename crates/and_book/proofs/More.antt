@@ -3,13 +3,12 @@ use Rattle.std.proofs.Common.{◌≡◌, ℕ, ◌+◌, ◌-◌, ◌≤◌, vec_l
 use Rattle.std.specs.Prelude.{slice_index, slice_index_or, is_some}
 use Rattle.std.specs.List.{All, count_by}
 use Rattle.std.proofs.lemmas.Grind.{fold-append}
-use Rattle.std.proofs.lemmas.List.Elements.{All-push, All-nil, All-replicate}
+use Rattle.std.proofs.lemmas.List.Elements.{All-push, All-nil}
 use Rattle.std.proofs.lemmas.List.Folds.{sum_by-replicate}
 use Rattle.and_policy.specs.declared.port.Port.TheVariants.{Absent}
 use Rattle.and_events.specs.declared.event.Held.{Held}
 use Rattle.and_events.specs.Sound.{IsSound, IsBuilt}
 use Rattle.and_kept.specs.Lanes.{unsent}
-use Rattle.and_parcel.specs.Parcels.{ParcelView}
 use Rattle.and_events.specs.declared.event.Event.{Event}
 use Rattle.and_events.specs.declared.event.Line.{Line}
 use Rattle.and_events.specs.declared.plan.Plan.{Plan}
@@ -21,8 +20,8 @@ use Rattle.and_laws.specs.Fates.{in_hand_count}
 use Rattle.and_laws.specs.Sizes.{HasSizes, HasNodes}
 use Rattle.and_laws.proofs.Sizes.{sizes, nodes as nodes_of}
 use Rattle.and_book.specs.declared.book.Book.TheInside.{Inside}
-use Rattle.and_book.specs.Views.{BookView, held, IsPacket}
-use Rattle.and_book.specs.Inside.{Kept, kept_of, view_of, Stands, IsSized, Keeps, IsBook}
+use Rattle.and_book.specs.Views.{BookView, held}
+use Rattle.and_book.specs.Inside.{Kept, kept_of, view_of, Stands, IsSized, HasParcels, Keeps, IsBook}
 
 past_push : (lines : List Line) (l : Line) → past (lines ++ l ∷ []) ≡ l.event ∷ past lines
 past_push lines l = fold-append (λ h x. x.event ∷ h) [] lines (l ∷ [])
@@ -46,7 +45,7 @@ pub record IsAfter (plan : Plan) (s : State) (e : Event) (k k' : Kept) : Type 0 
 pub keeps_more : (plan : Plan) (threads : ℕ) (lines lines' : List Line) (k k' : Kept) (spare spare' seat : ℕ) (e : Event) →
     Keeps plan threads lines k spare → Legal plan (state plan (past lines)) e → seat ≡ seat_of threads plan.settings (actor_of e)
     → lines' ≡ lines ++ record { seat = seat; event = e } ∷ [] → IsAfter plan (state plan (past lines)) e k k'
-    → All (λ ps. All (IsPacket plan) ps) k'.roads.parcels → in_hand_count k'.roads.flow ≤ spare' → Keeps plan threads lines' k' spare'
+    → HasParcels plan (e ∷ past lines) k'.roads → in_hand_count k'.roads.flow ≤ spare' → Keeps plan threads lines' k' spare'
 keeps_more plan threads lines lines' k k' spare spare' seat e keeps legal seated longer follows parcels fits =
     let l : Line = record { seat = seat; event = e } in
     let g : past lines' ≡ e ∷ past lines = ap past longer ∙ past_push lines l in
@@ -64,7 +63,7 @@ keeps_more plan threads lines lines' k k' spare spare' seat e keeps legal seated
         vms = follows.vms ∙ keeps.sized.vms;
         nets = λ vm. ap (λ ns. slice_index_or ns vm 0) follows.nets ∙ keeps.sized.nets vm;
       };
-      parcels = parcels;
+      parcels = subst (λ h. HasParcels plan h k'.roads) (sym g) parcels;
       held = fits;
       small = keeps.small;
       sizes = subst (HasSizes plan) (sym stands.flow) (sizes plan (past lines'));
@@ -109,10 +108,9 @@ pub keeps_start : (plan : Plan) (threads : ℕ) (lines : List Line) (k : Kept) (
     → k.progress.programmes ≡ record { log = []; ops = replicate nodes []; announced = replicate nodes 0; installed = replicate nodes 0 }
     → k.ports ≡ replicate vms (replicate plan.settings.hosts Absent)
     → k.roads.flow ≡ record { queues = replicate (queue_count plan.settings) []; hands = replicate (hand_count plan.settings) None; carried = replicate packets (unsent plan.settings) }
-    → IsSized plan k → k.roads.parcels ≡ replicate (queue_count plan.settings) [] → Keeps plan threads lines k spare
+    → IsSized plan k → HasParcels plan [] k.roads → Keeps plan threads lines k spare
 keeps_start plan threads lines k spare vms nodes packets sound built none zero n v p programmes ports flow sized parcels =
     let st : Stands k (state plan []) = subst (Stands k) (start_is plan) (stands_start plan k vms nodes packets zero n v p programmes ports flow) in
-    let empty : List ParcelView = [] in
     subst (λ ls. Keeps plan threads ls k spare) (sym none)
     (record {
       sound = sound;
@@ -121,8 +119,7 @@ keeps_start plan threads lines k spare vms nodes packets sound built none zero n
       seats = All-nil (λ (x : Line). x.seat ≡ seat_of threads plan.settings (actor_of x.event));
       stands = st;
       sized = sized;
-      parcels = subst (λ ps. All (λ qs. All (IsPacket plan) qs) ps) (sym parcels)
-          (All-replicate (λ qs. All (IsPacket plan) qs) (queue_count plan.settings) empty (All-nil (IsPacket plan)));
+      parcels = parcels;
       held = omega (arith, ap in_hand_count flow, none_held (hand_count plan.settings));
       small = record { hosts = sound.settings.hosts.1; gateways = sound.settings.gateways.1; workers = sound.settings.workers.1 };
       sizes = subst (HasSizes plan) (sym st.flow) (sizes plan []);

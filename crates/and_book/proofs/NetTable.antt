@@ -13,7 +13,7 @@ use Rattle.and_laws.proofs.Rows.{set_is}
 use Rattle.and_book.specs.Nets.{net_in, HasNets, AddsBelow, with_net}
 use Rattle.and_book.proofs.Known.{IsKnown, known_plan}
 
-net_first : (k : List Entry) (v net mac ip host vm : ℕ) (b : Bool) → (v == vm) ≡ b → net_in (AddVm v net mac ip host ∷ k) vm ≡ cond b net (net_in k vm)
+pub net_first : (k : List Entry) (v net mac ip host vm : ℕ) (b : Bool) → (v == vm) ≡ b → net_in (AddVm v net mac ip host ∷ k) vm ≡ cond b net (net_in k vm)
 net_first k v net mac ip host vm true e = rw e refl
 net_first k v net mac ip host vm false e = rw e refl
 

@@ -1,7 +1,6 @@
 -- A settled packet: the event is legal, and what is kept after it.
-use Rattle.std.proofs.Common.{◌≡◌, ℕ, ◌+◌, ◌<◌, Bool, cond, List, length, refl, sym, ap, ◌∙◌, subst, arith, Option, Some, None}
+use Rattle.std.proofs.Common.{◌≡◌, ℕ, ◌+◌, ◌<◌, Bool, cond, length, refl, ap, ◌∙◌, subst, arith, Option, Some, None}
 use Rattle.std.specs.Prelude.{is_some}
-use Rattle.std.specs.List.{All}
 use Rattle.and_policy.specs.declared.decision.GateDecision.{GateDecision}
 use Rattle.and_policy.specs.declared.decision.GateDecision.TheVariants as decisions
 use Rattle.and_policy.specs.declared.decision.Name.{Name}
@@ -9,7 +8,6 @@ use Rattle.and_policy.specs.declared.decision.Routed.{Routed}
 use Rattle.and_policy.specs.declared.decision.Routed.TheVariants as routeds
 use Rattle.and_policy.specs.declared.decision.Located.{Located}
 use Rattle.and_policy.specs.declared.decision.Located.TheVariants as locateds
-use Rattle.and_parcel.specs.Parcels.{ParcelView}
 use Rattle.and_events.specs.declared.event.Actor.{Actor}
 use Rattle.and_events.specs.declared.event.Actor.TheVariants.{HostInstall, GateInstall, Worker, Coproc, Gateway, Controller, Driver}
 use Rattle.and_events.specs.declared.event.End.{End}
@@ -32,10 +30,9 @@ use Rattle.and_events.specs.Legal.{Legal, Sends, Passes, GoesBack}
 use Rattle.and_laws.specs.Fates.{in_hand_count}
 use Rattle.and_kept.specs.Lanes.{Roads}
 use Rattle.and_kept.proofs.Counts.{count_set}
-use Rattle.and_book.specs.Settling.{end_to, queue_to, passage_by, passage_of, return_by, return_of, parcels_passed, parcels_returned, LeadsRouted, LeadsLocated, LeadsGate, gate_event, gate_move, gate_parcels, MaySettleGateway}
+use Rattle.and_book.specs.Settling.{end_to, queue_to, passage_by, passage_of, return_by, return_of, LeadsRouted, LeadsLocated, LeadsGate, gate_event, gate_move, MaySettleGateway}
 use Rattle.and_book.specs.Inside.{Kept, Stands}
 use Rattle.and_book.proofs.Ends.{Within, sends_end}
-use Rattle.and_book.proofs.Injecting.{all_after}
 use Rattle.and_book.proofs.More.{IsAfter}
 
 -- ---- legal at a gateway
@@ -49,7 +46,7 @@ passes_end : (plan : Plan) (s : State) (i : ℕ) (said : Routed) → LeadsRouted
 passes_end plan s i (routeds.Dropped by) leads sized w = refl
 passes_end plan s i (routeds.NoOwner by) leads sized w = refl
 passes_end plan s i (routeds.To by net host) leads sized w =
-    passes_by plan s i by net host (end_to plan.settings s.flow i (endpoints.Host host)) (sends_end plan s i (endpoints.Host host) leads sized w)
+    passes_by plan s i by net host (end_to plan.settings s.flow i (endpoints.Host host)) (sends_end plan s i (endpoints.Host host) leads.0 sized w)
 
 returns_by : (plan : Plan) (s : State) (i host : ℕ) (end : End) → Sends plan s i (endpoints.Host host) end → GoesBack plan s i (locateds.To host) (return_by host end)
 returns_by plan s i host Queued sends = (refl, (λ e. cc), sends)
@@ -87,6 +84,15 @@ after_gate plan s k roads a i hand d st there moved same =
     ∙ (ap (λ n. flow_after s.flow (gate_move plan.settings s.flow n i d)) there ∙ flow_gate plan s a i d)) in
     record { stands = quiet_gate plan s a i d k roads st flow; capacities = same; limit = refl; vms = refl; nets = refl }
 
+-- the move that is made is the event's
+pub move_gate : (plan : Plan) (s : State) (f : Flow) (a : Actor) (i hand : ℕ) (d : GateDecision) → f ≡ s.flow → hand ≡ hand_place plan.settings a → gate_move plan.settings f hand i d ≡ move_of plan s (gate_event plan.settings s.flow a i d)
+unfolding move_of
+move_gate plan s f a i hand d flow there = ap (λ g. gate_move plan.settings g hand i d) flow ∙ (ap (λ n. gate_move plan.settings s.flow n i d) there ∙ same d)
+  where
+    same : (d : GateDecision) → gate_move plan.settings s.flow (hand_place plan.settings a) i d ≡ move_of plan s (gate_event plan.settings s.flow a i d)
+    same (decisions.Routed at said) = refl
+    same (decisions.Located at said) = refl
+
 -- ---- the hand is empty then
 
 pub lets_go : (f : Flow) (hand : ℕ) (h : Held) → hand < length f.hands → hand_at f.hands hand ≡ Some h → in_hand_count (flow_after f (Stop hand h.packet)) + 1 ≡ in_hand_count f
@@ -120,23 +126,6 @@ returns_lets_go v f hand i returns.Hops h there is = lets_go f hand h there is
 pub gate_lets_go : (v : Settings) (f f' : Flow) (hand i : ℕ) (d : GateDecision) (h : Held) → hand < length f.hands → hand_at f.hands hand ≡ Some h → f' ≡ flow_after f (gate_move v f hand i d) → in_hand_count f' + 1 ≡ in_hand_count f
 gate_lets_go v f f' hand i (decisions.Routed at said) h there is moved = ap (λ x. in_hand_count x + 1) moved ∙ passes_lets_go v f hand i (passage_of v f i said) h there is
 gate_lets_go v f f' hand i (decisions.Located at said) h there is moved = ap (λ x. in_hand_count x + 1) moved ∙ returns_lets_go v f hand i (return_of v f i said) h there is
-
--- ---- the parcels then
-
-all_passed : (P : ParcelView → Type 0) (v : Settings) (parcels : List (List ParcelView)) (p : ParcelView) (x : Passage) → P p → All (λ ps. All P ps) parcels → All (λ ps. All P ps) (parcels_passed v parcels p x)
-all_passed P v parcels p (passages.Send by net host end) ok all = all_after P parcels (queue_to v (endpoints.Host host)) p end ok all
-all_passed P v parcels p (passages.Dropped by) ok all = all
-all_passed P v parcels p (passages.NoOwner by) ok all = all
-all_passed P v parcels p (passages.Hops by) ok all = all
-
-all_returned : (P : ParcelView → Type 0) (v : Settings) (parcels : List (List ParcelView)) (p : ParcelView) (x : Return) → P p → All (λ ps. All P ps) parcels → All (λ ps. All P ps) (parcels_returned v parcels p x)
-all_returned P v parcels p (returns.Send host end) ok all = all_after P parcels (queue_to v (endpoints.Host host)) p end ok all
-all_returned P v parcels p returns.NoOwner ok all = all
-all_returned P v parcels p returns.Hops ok all = all
-
-pub all_gate : (P : ParcelView → Type 0) (v : Settings) (f : Flow) (parcels parcels' : List (List ParcelView)) (p : ParcelView) (d : GateDecision) → parcels' ≡ gate_parcels v f parcels p d → P p → All (λ ps. All P ps) parcels → All (λ ps. All P ps) parcels'
-all_gate P v f parcels parcels' p (decisions.Routed at said) is ok all = subst (All (λ ps. All P ps)) (sym is) (all_passed P v parcels p (passage_of v f p.packet said) ok all)
-all_gate P v f parcels parcels' p (decisions.Located at said) is ok all = subst (All (λ ps. All P ps)) (sym is) (all_returned P v parcels p (return_of v f p.packet said) ok all)
 
 -- ---- whose event it is
 

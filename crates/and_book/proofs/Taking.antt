@@ -105,7 +105,7 @@ all_without_first P parcels parcels' q is all =
     subst (All (λ ps. All P ps)) (sym is)
     (All-set (λ ps. All P ps) parcels q (drop 1 (parcels_at parcels q)) (All-drop P 1 (parcels_at parcels q) (all_at P parcels q all)) all)
 
-first_of : (P : ParcelView → Type 0) (ps : List ParcelView) (p : ParcelView) → All P ps → slice_get ps 0 ≡ Some p → P p
+pub first_of : (P : ParcelView → Type 0) (ps : List ParcelView) (p : ParcelView) → All P ps → slice_get ps 0 ≡ Some p → P p
 first_of P [] p all e = absurd (cc)
 first_of P (x ∷ ps) p all e = let same : x ≡ p = cc in subst P same (All-head P x ps all)
 

@@ -1,20 +1,24 @@
 -- How a book's fields stand for the state after its lines.
-use Rattle.std.specs.Prelude.{◌≡◌, ℕ, ◌-◌, ◌<◌, ◌≤◌, List, length, slice_index, vec_len, vec_capacity}
+use Rattle.std.specs.Prelude.{◌≡◌, ℕ, ◌-◌, ◌<◌, ◌≤◌, List, length, map, slice_index, vec_len, vec_capacity}
 use Rattle.std.specs.List.{All}
 use Rattle.and_policy.specs.declared.port.Port.{Port}
+use Rattle.and_events.specs.declared.event.Event.{Event}
 use Rattle.and_events.specs.declared.event.Line.{Line}
+use Rattle.and_events.specs.declared.event.Node.{Node}
+use Rattle.and_events.specs.declared.event.Queue.TheVariants.{Wire}
 use Rattle.and_events.specs.declared.plan.Plan.{Plan}
-use Rattle.and_events.specs.Places.{queue_count, capacity_at, seat_of, actor_of}
+use Rattle.and_events.specs.Places.{queue_count, queue_place, capacity_at, seat_of, actor_of, IsNode}
 use Rattle.and_events.specs.State.{State, state}
 use Rattle.and_events.specs.Run.{Run, past}
 use Rattle.and_events.specs.Sound.{IsSound, IsBuilt}
 use Rattle.and_laws.specs.Fates.{in_hand_count}
 use Rattle.and_laws.specs.Sizes.{HasSizes, HasNodes}
-use Rattle.and_kept.specs.Lanes.{Roads}
+use Rattle.and_kept.specs.Lanes.{Roads, parcels_at}
 use Rattle.and_kept.specs.Nodes.{Progressed}
 use Rattle.and_book.specs.declared.book.Book.TheInside.{Inside}
 use Rattle.and_book.specs.Views.{BookView, IsSmall, IsPacket}
 use Rattle.and_book.specs.Nets.{HasNets}
+use Rattle.and_book.specs.Outers.{IsSentBy}
 
 -- what is kept of the state
 pub record Kept : Type 0 where
@@ -44,6 +48,13 @@ pub record IsSized (plan : Plan) (k : Kept) : Type 0 where
   pub vms : k.progress.vms ≡ length plan.names
   pub nets : HasNets k.nets plan.log
 
+-- each parcel in a queue has its packet's frame, the queues' packets are those of the parcels, and what came to a node by its
+-- `wire` queue has the outer bytes of its packet's newest send
+pub record HasParcels (plan : Plan) (h : List Event) (roads : Roads) : Type 0 where
+  pub packets : All (λ ps. All (IsPacket plan) ps) roads.parcels
+  pub numbers : map (λ ps. map (λ p. p.packet) ps) roads.parcels ≡ roads.flow.queues
+  pub outers : (node : Node) → IsNode plan.settings node → All (IsSentBy plan h) (parcels_at roads.parcels (queue_place plan.settings node Wire))
+
 -- the lines are a run of the plan, each with the seat of its actor, and what is kept is the state after them
 pub record Keeps (plan : Plan) (threads : ℕ) (lines : List Line) (k : Kept) (spare : ℕ) : Type 0 where
   pub sound : IsSound plan
@@ -52,7 +63,7 @@ pub record Keeps (plan : Plan) (threads : ℕ) (lines : List Line) (k : Kept) (s
   pub seats : All (λ l. l.seat ≡ seat_of threads plan.settings (actor_of l.event)) lines
   pub stands : Stands k (state plan (past lines))
   pub sized : IsSized plan k
-  pub parcels : All (λ ps. All (IsPacket plan) ps) k.roads.parcels
+  pub parcels : HasParcels plan (past lines) k.roads
   pub held : in_hand_count k.roads.flow ≤ spare
   pub small : IsSmall plan.settings
   pub sizes : HasSizes plan k.roads.flow

@@ -1,5 +1,5 @@
 -- How a packet in hand is settled, by what the policy says of it.
-use Rattle.std.specs.Prelude.{◌≡◌, ℕ, ◌<◌, Bool, true, false, List}
+use Rattle.std.specs.Prelude.{◌≡◌, ℕ, ◌<◌, ◌^◌, Bool, true, false, List}
 use Rattle.and_policy.specs.declared.decision.Dest.{Dest}
 use Rattle.and_policy.specs.declared.decision.Leaving.{Leaving}
 use Rattle.and_policy.specs.declared.decision.Leaving.TheVariants as leavings
@@ -23,7 +23,6 @@ use Rattle.and_policy.specs.FlowHash.{gateway_of}
 use Rattle.and_policy.specs.Ingress.{landing}
 use Rattle.and_policy.specs.Owners.{routed, located}
 use Rattle.and_policy.specs.Programmes.{leaving}
-use Rattle.and_parcel.specs.Parcels.{ParcelView}
 use Rattle.and_events.specs.declared.event.Actor.{Actor}
 use Rattle.and_events.specs.declared.event.Arrival.{Arrival}
 use Rattle.and_events.specs.declared.event.Arrival.TheVariants as arrivals
@@ -45,10 +44,9 @@ use Rattle.and_events.specs.declared.plan.Plan.{Plan}
 use Rattle.and_events.specs.declared.plan.Settings.{Settings}
 use Rattle.and_events.specs.Places.{queue_place, capacity_at, node_of, IsNode, IsWorker, IsGatewayWorker}
 use Rattle.and_events.specs.Flow.{Flow, Move, carried_in, end_at, end_of_send}
-use Rattle.and_events.specs.State.{State, node_at, dest_endpoint, passes, goes_back, carried_at, packet_at, tuple_at, programme_of, host_of}
+use Rattle.and_events.specs.State.{State, node_at, dest_endpoint, dest_net, passes, goes_back, carried_at, packet_at, tuple_at, programme_of, host_of}
 use Rattle.and_events.specs.Ports.{port_at}
 use Rattle.and_events.specs.Legal.{Decides, entries_at, IsRouteTarget, IsRedirectTarget}
-use Rattle.and_kept.specs.Lanes.{parcels_after}
 
 -- ---- sends
 
@@ -80,17 +78,9 @@ abbrev pub return_of : Settings → Flow → ℕ → Located → Return
 return_of s f i locateds.NoOwner = returns.NoOwner
 return_of s f i (locateds.To host) = return_by host (end_to s f i (endpoints.Host host))
 
-abbrev pub parcels_passed : Settings → List (List ParcelView) → ParcelView → Passage → List (List ParcelView)
-parcels_passed s parcels p (passages.Send by net host end) = parcels_after parcels (queue_to s (endpoints.Host host)) p end
-parcels_passed s parcels p _ = parcels
-
-abbrev pub parcels_returned : Settings → List (List ParcelView) → ParcelView → Return → List (List ParcelView)
-parcels_returned s parcels p (returns.Send host end) = parcels_after parcels (queue_to s (endpoints.Host host)) p end
-parcels_returned s parcels p _ = parcels
-
--- where it leads is there
+-- where it leads is there, and the network is a VNI of 24 bits
 abbrev pub LeadsRouted : Settings → Routed → Type 0
-LeadsRouted s (routeds.To by net host) = host < s.hosts
+LeadsRouted s (routeds.To by net host) = (host < s.hosts) × (net < 2 ^ 24)
 LeadsRouted s _ = Unit {0}
 
 abbrev pub LeadsLocated : Settings → Located → Type 0
@@ -109,10 +99,6 @@ gate_event s f a i (decisions.Located at said) = Redirect a i at (return_of s f 
 abbrev pub gate_move : Settings → Flow → ℕ → ℕ → GateDecision → Move
 gate_move s f hand i (decisions.Routed at said) = passes s hand i (passage_of s f i said)
 gate_move s f hand i (decisions.Located at said) = goes_back s (carried_in f.carried i) hand i (return_of s f i said)
-
-abbrev pub gate_parcels : Settings → Flow → List (List ParcelView) → ParcelView → GateDecision → List (List ParcelView)
-gate_parcels s f parcels p (decisions.Routed at said) = parcels_passed s parcels p (passage_of s f p.packet said)
-gate_parcels s f parcels p (decisions.Located at said) = parcels_returned s parcels p (return_of s f p.packet said)
 
 -- the number by which it was decided
 abbrev pub gate_number : GateDecision → ℕ
@@ -147,11 +133,6 @@ arrival_at s f x i vm by pass port_states.Absent =
 abbrev pub arrival_of : Settings → Flow → List (List Port) → ℕ → Tuple → ℕ → Landing → Arrival
 arrival_of s f ports here x i landings.NoOwner = arrivals.NoOwner
 arrival_of s f ports here x i (landings.Owned vm by pass) = arrival_at s f x i vm by pass (port_at ports here vm)
-
-abbrev pub parcels_arrived : Settings → List (List ParcelView) → ParcelView → Arrival → List (List ParcelView)
-parcels_arrived s parcels p (arrivals.Hairpin vm host end) = parcels_after parcels (queue_to s (endpoints.Host host)) p end
-parcels_arrived s parcels p (arrivals.Absent vm gateway end) = parcels_after parcels (queue_to s (endpoints.Redirect gateway)) p end
-parcels_arrived s parcels p _ = parcels
 
 -- where a hairpin leads is there
 abbrev pub LeadsPort : Settings → Port → Type 0
@@ -196,15 +177,10 @@ departure_of s f here i leavings.Spoofed = departures.Spoofed
 departure_of s f here i (leavings.Denied number) = departures.Denied number
 departure_of s f here i (leavings.Allowed by sealed dest) = departures.Allowed by sealed dest (departs_end s f here i sealed dest)
 
-abbrev pub parcels_departed : Settings → List (List ParcelView) → Node → ParcelView → Departure → List (List ParcelView)
-parcels_departed s parcels here p (departures.Allowed by true dest end) = parcels_after parcels (queue_place s here Seal) p end
-parcels_departed s parcels here p (departures.Allowed by false dest end) = parcels_after parcels (queue_to s (dest_endpoint dest)) p end
-parcels_departed s parcels here p _ = parcels
-
--- where it leads is there
-abbrev pub LeadsLeaving : Settings → Leaving → Type 0
-LeadsLeaving s (leavings.Allowed by sealed dest) = IsNode s (node_at (dest_endpoint dest))
-LeadsLeaving s _ = Unit {0}
+-- where it leads from a VM of this network is there, and the network of the send is a VNI of 24 bits
+abbrev pub LeadsLeaving : Settings → ℕ → Leaving → Type 0
+LeadsLeaving s own (leavings.Allowed by sealed dest) = IsNode s (node_at (dest_endpoint dest)) × (dest_net own dest < 2 ^ 24)
+LeadsLeaving s own _ = Unit {0}
 
 -- the policy's word
 abbrev pub leaving_said : Plan → State → Actor → ℕ → ℕ → Leaving

@@ -1,20 +1,28 @@
 //! The book.
+ghost use Rattle.std.specs.List.{All};
 ghost use Rattle.std.specs.Prelude.{◌≡◌, ℕ, ◌+◌, ◌<◌, ◌≤◌, ◌^◌, ◌↔◌, List, [], length, IfOk, OnOk, IsTrue, Some, slice_get, slice_index_or};
 ghost use Rattle.and_events.specs.declared.event.Actor.TheVariants.{Driver};
 ghost use Rattle.and_events.specs.Places as places;
-ghost use Rattle.and_events.specs.Places.{installer_of, IsNode};
-ghost use Rattle.and_events.specs.State.{programme_of, announced_of, installed_of, home, packet_at, no_packet, ports_move_of_entry};
+ghost use Rattle.and_events.specs.Places.{actor_of, hand_count, installer_of, seat_of, IsActor, IsNode};
+ghost use Rattle.and_events.specs.State.{programme_of, announced_of, installed_of, carried_at, home, packet_at, no_packet, ports_move_of_entry};
 ghost use Rattle.and_events.specs.Ports.{ports_after};
+ghost use Rattle.and_events.specs.Run.{Run, past};
 ghost use Rattle.and_events.specs.Legal.{CanAnnounce, CanInstall, IsAtRest, IsOver, KnowsVm, Enabled};
 ghost use Rattle.and_events.specs.Sound.{IsSound, IsBuilt, IsBuiltEntry};
-ghost use Rattle.and_book.specs.Views.{BookView, now, held, IsSeat, with_line, source_in, MayTake, IsPacket, IsAppend, finds_full};
+ghost use Rattle.and_laws.specs.Fates.{HasOneFateOrPlace};
+ghost use Rattle.and_book.specs.Outers.{IsSentBy};
+ghost use Rattle.and_book.specs.Tales.{newest_first, KeepSeats};
+ghost use Rattle.and_book.specs.Views.{BookView, Handles, IsSmall, now, held, IsSeat, with_line, source_in, MayTake, IsPacket, IsAppend, finds_full};
 ghost use Rattle.and_book.specs.Settling.{MaySettleGateway, gate_event, MaySettleIngress, ingress_event, IsLanding, MaySettleEgress, egress_event, IsLeaving};
 
 use crate::enabling::can_act;
 use crate::nets::{net_of, nets_of};
-use crate::places::{hand_place, host_of, node_of, node_place, queue_place, source};
+use crate::outers::Holder;
+use crate::places::{hand_place, node_of, node_place, queue_place, source};
 use crate::sending::{settle_gate, settle_landing, settle_leaving};
-use and_events::{Actor, Event, Held, Items, Line, Node, Packet, Plan, Queue, Step};
+use and_events::{
+    Actor, Carried, Event, Held, Items, Line, Node, Packet, Plan, Queue, Settings, Step,
+};
 use and_kept::{PortTable, Progress, Traffic};
 use and_parcel::Parcel;
 use and_policy::{Decision, Entry, GateDecision, Landing, Leaving, NoMemory, Op, Outcome, Tuple};
@@ -107,11 +115,40 @@ impl Book {
         self.lines.as_slice()
     }
 
+    /// Law, at no cost when it runs: the lines are a legal run of the plan; each has the seat of its actor; each packet that was
+    /// injected so far has exactly one fate or place; and what ends a holding has the seat of the Take that began it, an
+    /// Installed that of its node's newest Announce.
+    pub fn tells_a_run(&self)
+        ensures run { Run self.now.plan (past self.now.lines) }
+        ensures seats { All (λ l. l.seat ≡ seat_of self.now.threads self.now.plan.settings (actor_of l.event)) self.now.lines }
+        ensures fates { HasOneFateOrPlace self.now.plan (past self.now.lines) }
+        ensures keeps { KeepSeats self.now.plan.settings (newest_first self.now.lines) }
+    {
+        let _ = &self.plan;
+    }
+
     /// The step that is due.
     pub fn next_step(&self) -> Option<Step>
         ensures { result ≡ slice_get self.now.plan.steps (now self.now).next }
     {
         self.plan.steps.get(self.next as usize).copied()
+    }
+
+    /// What is true of every book: its lines are a legal run of its plan, which is sound and of what the program runs so far.
+    pub fn is_run(&self)
+        ensures sound { IsSound self.now.plan }
+        ensures built { IsBuilt self.now.plan }
+        ensures run { Run self.now.plan (past self.now.lines) }
+    {
+        let _ = &self.next;
+    }
+
+    /// What is known of the packet on its way.
+    pub fn carried(&self, packet: u32) -> Carried
+        requires { packet < length self.now.plan.packets }
+        ensures { result ≡ carried_at (now self.now) packet }
+    {
+        self.traffic.carried(packet)
     }
 
     /// Whether one of the actor's events is legal. It takes the same few steps however long the run is.
@@ -218,7 +255,8 @@ impl Book {
     }
 
     /// The actor takes the first packet of its queue: a host worker from `out` only where `wire` is empty. The parcel is the
-    /// actor's until it settles the packet.
+    /// actor's until it settles the packet. From `wire` it has the outer bytes of the send that put it there, the packet's
+    /// newest one.
     pub fn take(&mut self, seat: u32, actor: Actor) -> (Held, Parcel)
         requires seat { IsSeat self.old seat actor }
         requires ready { MayTake self.old.plan (now self.old) actor }
@@ -230,6 +268,7 @@ impl Book {
           queue = source_in self.old.plan.settings (now self.old).flow actor;
         } }
         ensures parcel { IsPacket self.old.plan result.1 }
+        ensures wire { result.0.queue ≡ Queue.Wire → IsSentBy self.old.plan (past self.old.lines) result.1 }
     {
         let settings = self.plan.settings;
         let node = node_of(actor);
@@ -303,8 +342,8 @@ impl Book {
         ensures { self.new ≡ with_line self.old seat (gate_event self.old.plan.settings (now self.old).flow actor parcel.packet decision) }
     {
         let settings = self.plan.settings;
-        let hand = hand_place(settings, actor);
-        let event = settle_gate(settings, &mut self.traffic, hand, actor, parcel, decision);
+        let from = holder(settings, &self.plan.packets, actor, parcel.packet());
+        let event = settle_gate(settings, &mut self.traffic, from, actor, parcel, decision);
         self.lines.push_reserved(Line { seat, event });
     }
 
@@ -316,21 +355,10 @@ impl Book {
         ensures { self.new ≡ with_line self.old seat (ingress_event self.old.plan (now self.old) actor parcel.packet decision.at decision.way) }
     {
         let settings = self.plan.settings;
-        let hand = hand_place(settings, actor);
-        let here = host_of(node_of(actor));
         let packet = parcel.packet();
-        let tuple = tuple_of(&self.plan.packets, packet);
+        let from = holder(settings, &self.plan.packets, actor, packet);
         let said = landing_in(decision.outcome);
-        let arrival = settle_landing(
-            settings,
-            &mut self.traffic,
-            &self.ports,
-            here,
-            hand,
-            tuple,
-            parcel,
-            said,
-        );
+        let arrival = settle_landing(settings, &mut self.traffic, &self.ports, from, parcel, said);
         self.lines.push_reserved(Line {
             seat,
             event: Event::Ingress {
@@ -351,12 +379,11 @@ impl Book {
         ensures { self.new ≡ with_line self.old seat (egress_event self.old.plan (now self.old) actor parcel.packet decision.at decision.way) }
     {
         let settings = self.plan.settings;
-        let hand = hand_place(settings, actor);
-        let here = node_of(actor);
         let packet = parcel.packet();
+        let from = holder(settings, &self.plan.packets, actor, packet);
         let own = net_of(&self.nets, parcel.vm());
         let said = leaving_in(decision.outcome);
-        let departure = settle_leaving(settings, &mut self.traffic, here, hand, own, parcel, said);
+        let departure = settle_leaving(settings, &mut self.traffic, from, own, parcel, said);
         self.lines.push_reserved(Line {
             seat,
             event: Event::Egress {
@@ -400,6 +427,26 @@ fn tuple_of(packets: &Items<Packet>, packet: u32) -> Tuple
     match packets.get(packet as usize) {
         Some(found) => found.tuple,
         None => unreachable!(),
+    }
+}
+
+// The actor with a packet of the plan in hand.
+#[tactic(auto, using(crate::proofs::Outgoing::handles_node))]
+fn holder(settings: Settings, packets: &Items<Packet>, actor: Actor, packet: u32) -> Holder
+    requires small { IsSmall settings }
+    requires actor { IsActor settings actor }
+    requires handles { Handles actor }
+    requires packet { packet < length packets.now }
+    ensures hand { result.hand ≡ places.hand_place settings actor }
+    ensures within { result.hand < hand_count settings }
+    ensures node { result.node ≡ places.node_of actor }
+    ensures there { IsNode settings result.node }
+    ensures tuple { result.tuple ≡ (slice_index_or packets.now packet no_packet).tuple }
+{
+    Holder {
+        hand: hand_place(settings, actor),
+        node: node_of(actor),
+        tuple: tuple_of(packets, packet),
     }
 }
 

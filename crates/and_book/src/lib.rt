@@ -2,7 +2,10 @@
 //!
 //! A [`Book`]'s type says that its lines are a legal run of its plan, that each has the seat of its actor, and that what
 //! is kept is the state after them. Each call that makes an event happen asks for that event's condition and adds
-//! exactly that event; no call adds another.
+//! exactly that event; no call adds another. [`Book::tells_a_run`] says what the lines tell.
+//!
+//! A parcel that is sent to a node gets its outer headers as it enters that node's queue, so what [`Book::take`] hands out from
+//! there has the outer bytes of its packet's newest send. The frame is neither moved nor copied.
 //!
 //! It stands on `and_laws` for what holds in every run, and on `and_kept` for the parts of the state.
 #![tactic(auto)]
@@ -10,10 +13,12 @@
 mod book;
 mod enabling;
 mod nets;
+mod outers;
 mod places;
 mod sending;
 
 pub use book::Book;
+pub use places::{hand_place, node_of};
 
 #[cfg(test)]
 mod tests;

@@ -39,7 +39,7 @@ pub(crate) fn queue_place(settings: Settings, node: Node, queue: Queue) -> usize
 }
 
 /// The place of an actor's hand.
-pub(crate) fn hand_place(settings: Settings, actor: Actor) -> usize
+pub fn hand_place(settings: Settings, actor: Actor) -> usize
     requires small { IsSmall settings }
     requires actor { IsActor settings actor }
     requires handles { Handles actor }
@@ -57,7 +57,7 @@ pub(crate) fn hand_place(settings: Settings, actor: Actor) -> usize
 }
 
 /// The node at which an actor works.
-pub(crate) fn node_of(actor: Actor) -> Node
+pub fn node_of(actor: Actor) -> Node
     ensures { result ≡ places.node_of actor }
 {
     match actor {

@@ -1,15 +1,16 @@
 //! What becomes of a packet in hand.
-ghost use Rattle.std.specs.Prelude.{◌≡◌, ℕ, ◌<◌, length, slice_index};
+ghost use Rattle.std.specs.Prelude.{◌≡◌, ℕ, ◌<◌, ◌^◌, length, slice_index};
 ghost use Rattle.and_events.specs.declared.event.Queue.TheVariants.{Wire, Seal};
 ghost use Rattle.and_events.specs.Places.{queue_count, capacity_at, IsNode, HasQueue};
 ghost use Rattle.and_events.specs.Places as places;
 ghost use Rattle.and_events.specs.Flow.{flow_after, carried_in};
 ghost use Rattle.and_events.specs.State as states;
-ghost use Rattle.and_kept.specs.Lanes.{parcels_after};
+ghost use Rattle.and_book.specs.Outers.{parcels_moved};
 ghost use Rattle.and_book.specs.Views.{IsSmall};
-ghost use Rattle.and_book.specs.Settling.{queue_to, end_to, passage_of, return_of, parcels_passed, parcels_returned, LeadsRouted, LeadsLocated, LeadsGate, gate_event, gate_move, gate_parcels, arrival_at, arrival_of, parcels_arrived, LeadsPort, LeadsLanding, departure_of, parcels_departed, LeadsLeaving};
+ghost use Rattle.and_book.specs.Settling.{end_to, passage_of, return_of, LeadsRouted, LeadsLocated, LeadsGate, gate_event, gate_move, arrival_at, arrival_of, LeadsPort, LeadsLanding, departure_of, LeadsLeaving};
 
-use crate::places::queue_place;
+use crate::outers::{Holder, wrap_to};
+use crate::places::{host_of, queue_place};
 use and_events::{
     Actor, Arrival, Departure, End, Endpoint, Event, Node, Passage, Queue, Return, Settings,
 };
@@ -33,56 +34,64 @@ fn node_at(target: Endpoint) -> Node
 pub(crate) fn send(
     settings: Settings,
     traffic: &mut Traffic,
-    hand: usize,
+    from: Holder,
     parcel: Parcel,
     net: u32,
     target: Endpoint,
 ) -> End
     requires small { IsSmall settings }
-    requires hand { hand < length traffic.old.flow.hands }
+    requires hand { from.hand < length traffic.old.flow.hands }
+    requires node { IsNode settings from.node }
     requires queues { length traffic.old.flow.queues ≡ queue_count settings }
     requires packet { parcel.packet < length traffic.old.flow.carried }
+    requires hops { (carried_in traffic.old.flow.carried parcel.packet).hops < 2 ^ 8 }
     requires capacities { (q : ℕ) → q < queue_count settings → slice_index traffic.old.capacities q ≡ capacity_at settings q }
+    requires net { net < 2 ^ 24 }
     requires target { IsNode settings (states.node_at target) }
     ensures end { result ≡ end_to settings traffic.old.flow parcel.packet target }
-    ensures flow { traffic.new.flow ≡ flow_after traffic.old.flow (states.send settings hand parcel.packet result target net) }
-    ensures parcels { traffic.new.parcels ≡ parcels_after traffic.old.parcels (queue_to settings target) parcel result }
+    ensures flow { traffic.new.flow ≡ flow_after traffic.old.flow (states.send settings from.hand parcel.packet result target net) }
+    ensures parcels { traffic.new.parcels ≡ parcels_moved from.node from.tuple (carried_in traffic.old.flow.carried parcel.packet).hops traffic.old.parcels parcel (states.send settings from.hand parcel.packet result target net) }
     ensures capacities { traffic.new.capacities ≡ traffic.old.capacities }
 {
+    let mut parcel = parcel;
+    let hops = traffic.carried(parcel.packet()).hops;
+    wrap_to(settings, from, hops, &mut parcel, net, target);
     let queue = queue_place(settings, node_at(target), Queue::Wire);
-    traffic.send(hand, queue, parcel, net, target)
+    traffic.send(from.hand, queue, parcel, net, target)
 }
 
 // Passes a packet at a gateway on, or lets it go, as the routes say.
 fn pass(
     settings: Settings,
     traffic: &mut Traffic,
-    hand: usize,
+    from: Holder,
     parcel: Parcel,
     said: Routed,
 ) -> Passage
     requires small { IsSmall settings }
-    requires hand { hand < length traffic.old.flow.hands }
+    requires hand { from.hand < length traffic.old.flow.hands }
+    requires node { IsNode settings from.node }
     requires queues { length traffic.old.flow.queues ≡ queue_count settings }
     requires packet { parcel.packet < length traffic.old.flow.carried }
+    requires hops { (carried_in traffic.old.flow.carried parcel.packet).hops < 2 ^ 8 }
     requires capacities { (q : ℕ) → q < queue_count settings → slice_index traffic.old.capacities q ≡ capacity_at settings q }
     requires leads { LeadsRouted settings said }
     ensures passage { result ≡ passage_of settings traffic.old.flow parcel.packet said }
-    ensures flow { traffic.new.flow ≡ flow_after traffic.old.flow (states.passes settings hand parcel.packet result) }
-    ensures parcels { traffic.new.parcels ≡ parcels_passed settings traffic.old.parcels parcel result }
+    ensures flow { traffic.new.flow ≡ flow_after traffic.old.flow (states.passes settings from.hand parcel.packet result) }
+    ensures parcels { traffic.new.parcels ≡ parcels_moved from.node from.tuple (carried_in traffic.old.flow.carried parcel.packet).hops traffic.old.parcels parcel (states.passes settings from.hand parcel.packet result) }
     ensures capacities { traffic.new.capacities ≡ traffic.old.capacities }
 {
     match said {
         Routed::Dropped { by } => {
-            traffic.stop(hand, parcel);
+            traffic.stop(from.hand, parcel);
             Passage::Dropped { by }
         }
         Routed::NoOwner { by } => {
-            traffic.stop(hand, parcel);
+            traffic.stop(from.hand, parcel);
             Passage::NoOwner { by }
         }
         Routed::To { by, net, host } => {
-            match send(settings, traffic, hand, parcel, net, Endpoint::Host(host)) {
+            match send(settings, traffic, from, parcel, net, Endpoint::Host(host)) {
                 End::Hops => Passage::Hops { by },
                 End::Full => Passage::Send {
                     by,
@@ -105,29 +114,32 @@ fn pass(
 fn go_back(
     settings: Settings,
     traffic: &mut Traffic,
-    hand: usize,
+    from: Holder,
     parcel: Parcel,
     said: Located,
 ) -> Return
     requires small { IsSmall settings }
-    requires hand { hand < length traffic.old.flow.hands }
+    requires hand { from.hand < length traffic.old.flow.hands }
+    requires node { IsNode settings from.node }
     requires queues { length traffic.old.flow.queues ≡ queue_count settings }
     requires packet { parcel.packet < length traffic.old.flow.carried }
+    requires hops { (carried_in traffic.old.flow.carried parcel.packet).hops < 2 ^ 8 }
     requires capacities { (q : ℕ) → q < queue_count settings → slice_index traffic.old.capacities q ≡ capacity_at settings q }
+    requires net { (carried_in traffic.old.flow.carried parcel.packet).net < 2 ^ 24 }
     requires leads { LeadsLocated settings said }
     ensures back { result ≡ return_of settings traffic.old.flow parcel.packet said }
-    ensures flow { traffic.new.flow ≡ flow_after traffic.old.flow (states.goes_back settings (carried_in traffic.old.flow.carried parcel.packet) hand parcel.packet result) }
-    ensures parcels { traffic.new.parcels ≡ parcels_returned settings traffic.old.parcels parcel result }
+    ensures flow { traffic.new.flow ≡ flow_after traffic.old.flow (states.goes_back settings (carried_in traffic.old.flow.carried parcel.packet) from.hand parcel.packet result) }
+    ensures parcels { traffic.new.parcels ≡ parcels_moved from.node from.tuple (carried_in traffic.old.flow.carried parcel.packet).hops traffic.old.parcels parcel (states.goes_back settings (carried_in traffic.old.flow.carried parcel.packet) from.hand parcel.packet result) }
     ensures capacities { traffic.new.capacities ≡ traffic.old.capacities }
 {
     match said {
         Located::NoOwner => {
-            traffic.stop(hand, parcel);
+            traffic.stop(from.hand, parcel);
             Return::NoOwner
         }
         Located::To { host } => {
             let net = traffic.carried(parcel.packet()).net;
-            match send(settings, traffic, hand, parcel, net, Endpoint::Host(host)) {
+            match send(settings, traffic, from, parcel, net, Endpoint::Host(host)) {
                 End::Hops => Return::Hops,
                 End::Full => Return::Send {
                     host,
@@ -146,26 +158,29 @@ fn go_back(
 pub(crate) fn settle_gate(
     settings: Settings,
     traffic: &mut Traffic,
-    hand: usize,
+    from: Holder,
     actor: Actor,
     parcel: Parcel,
     decision: GateDecision,
 ) -> Event
     requires small { IsSmall settings }
-    requires hand { hand < length traffic.old.flow.hands }
+    requires hand { from.hand < length traffic.old.flow.hands }
+    requires node { IsNode settings from.node }
     requires queues { length traffic.old.flow.queues ≡ queue_count settings }
     requires packet { parcel.packet < length traffic.old.flow.carried }
+    requires hops { (carried_in traffic.old.flow.carried parcel.packet).hops < 2 ^ 8 }
     requires capacities { (q : ℕ) → q < queue_count settings → slice_index traffic.old.capacities q ≡ capacity_at settings q }
+    requires net { (carried_in traffic.old.flow.carried parcel.packet).net < 2 ^ 24 }
     requires leads { LeadsGate settings decision }
     ensures event { result ≡ gate_event settings traffic.old.flow actor parcel.packet decision }
-    ensures flow { traffic.new.flow ≡ flow_after traffic.old.flow (gate_move settings traffic.old.flow hand parcel.packet decision) }
-    ensures parcels { traffic.new.parcels ≡ gate_parcels settings traffic.old.flow traffic.old.parcels parcel decision }
+    ensures flow { traffic.new.flow ≡ flow_after traffic.old.flow (gate_move settings traffic.old.flow from.hand parcel.packet decision) }
+    ensures parcels { traffic.new.parcels ≡ parcels_moved from.node from.tuple (carried_in traffic.old.flow.carried parcel.packet).hops traffic.old.parcels parcel (gate_move settings traffic.old.flow from.hand parcel.packet decision) }
     ensures capacities { traffic.new.capacities ≡ traffic.old.capacities }
 {
     let packet = parcel.packet();
     match decision {
         GateDecision::Routed { at, routed } => {
-            let passage = pass(settings, traffic, hand, parcel, routed);
+            let passage = pass(settings, traffic, from, parcel, routed);
             Event::Route {
                 actor,
                 packet,
@@ -174,7 +189,7 @@ pub(crate) fn settle_gate(
             }
         }
         GateDecision::Located { at, located } => {
-            let back = go_back(settings, traffic, hand, parcel, located);
+            let back = go_back(settings, traffic, from, parcel, located);
             Event::Redirect {
                 actor,
                 packet,
@@ -190,8 +205,7 @@ fn arrive(
     settings: Settings,
     traffic: &mut Traffic,
     port: Port,
-    hand: usize,
-    tuple: Tuple,
+    from: Holder,
     parcel: Parcel,
     vm: u32,
     by: Name,
@@ -199,40 +213,43 @@ fn arrive(
 ) -> Arrival
     requires small { IsSmall settings }
     requires gateways { 0 < settings.gateways }
-    requires hand { hand < length traffic.old.flow.hands }
+    requires hand { from.hand < length traffic.old.flow.hands }
+    requires node { IsNode settings from.node }
     requires queues { length traffic.old.flow.queues ≡ queue_count settings }
     requires packet { parcel.packet < length traffic.old.flow.carried }
+    requires hops { (carried_in traffic.old.flow.carried parcel.packet).hops < 2 ^ 8 }
     requires capacities { (q : ℕ) → q < queue_count settings → slice_index traffic.old.capacities q ≡ capacity_at settings q }
+    requires net { (carried_in traffic.old.flow.carried parcel.packet).net < 2 ^ 24 }
     requires leads { LeadsPort settings port }
-    ensures arrival { result ≡ arrival_at settings traffic.old.flow tuple parcel.packet vm by pass port }
-    ensures flow { traffic.new.flow ≡ flow_after traffic.old.flow (states.arrives settings (carried_in traffic.old.flow.carried parcel.packet) hand parcel.packet result) }
-    ensures parcels { traffic.new.parcels ≡ parcels_arrived settings traffic.old.parcels parcel result }
+    ensures arrival { result ≡ arrival_at settings traffic.old.flow from.tuple parcel.packet vm by pass port }
+    ensures flow { traffic.new.flow ≡ flow_after traffic.old.flow (states.arrives settings (carried_in traffic.old.flow.carried parcel.packet) from.hand parcel.packet result) }
+    ensures parcels { traffic.new.parcels ≡ parcels_moved from.node from.tuple (carried_in traffic.old.flow.carried parcel.packet).hops traffic.old.parcels parcel (states.arrives settings (carried_in traffic.old.flow.carried parcel.packet) from.hand parcel.packet result) }
     ensures capacities { traffic.new.capacities ≡ traffic.old.capacities }
 {
     let net = traffic.carried(parcel.packet()).net;
     match port {
         Port::Running => {
-            traffic.stop(hand, parcel);
+            traffic.stop(from.hand, parcel);
             Arrival::Running { vm, by, pass }
         }
         Port::Paused => {
-            traffic.stop(hand, parcel);
+            traffic.stop(from.hand, parcel);
             Arrival::Blackout { vm }
         }
         Port::Arriving => {
-            traffic.stop(hand, parcel);
+            traffic.stop(from.hand, parcel);
             Arrival::Blackout { vm }
         }
         Port::Hairpin { host, .. } => {
-            let end = send(settings, traffic, hand, parcel, net, Endpoint::Host(host));
+            let end = send(settings, traffic, from, parcel, net, Endpoint::Host(host));
             Arrival::Hairpin { vm, host, end }
         }
         Port::Absent => {
-            let gateway = u32::from(flow_hash(&tuple)) % settings.gateways;
+            let gateway = u32::from(flow_hash(&from.tuple)) % settings.gateways;
             let end = send(
                 settings,
                 traffic,
-                hand,
+                from,
                 parcel,
                 net,
                 Endpoint::Redirect(gateway),
@@ -247,32 +264,33 @@ pub(crate) fn settle_landing(
     settings: Settings,
     traffic: &mut Traffic,
     ports: &PortTable,
-    here: u32,
-    hand: usize,
-    tuple: Tuple,
+    from: Holder,
     parcel: Parcel,
     said: Landing,
 ) -> Arrival
     requires small { IsSmall settings }
     requires gateways { 0 < settings.gateways }
-    requires hand { hand < length traffic.old.flow.hands }
+    requires hand { from.hand < length traffic.old.flow.hands }
+    requires node { IsNode settings from.node }
     requires queues { length traffic.old.flow.queues ≡ queue_count settings }
     requires packet { parcel.packet < length traffic.old.flow.carried }
+    requires hops { (carried_in traffic.old.flow.carried parcel.packet).hops < 2 ^ 8 }
     requires capacities { (q : ℕ) → q < queue_count settings → slice_index traffic.old.capacities q ≡ capacity_at settings q }
-    requires leads { LeadsLanding settings ports.now here said }
-    ensures arrival { result ≡ arrival_of settings traffic.old.flow ports.now here tuple parcel.packet said }
-    ensures flow { traffic.new.flow ≡ flow_after traffic.old.flow (states.arrives settings (carried_in traffic.old.flow.carried parcel.packet) hand parcel.packet result) }
-    ensures parcels { traffic.new.parcels ≡ parcels_arrived settings traffic.old.parcels parcel result }
+    requires net { (carried_in traffic.old.flow.carried parcel.packet).net < 2 ^ 24 }
+    requires leads { LeadsLanding settings ports.now (states.host_of from.node) said }
+    ensures arrival { result ≡ arrival_of settings traffic.old.flow ports.now (states.host_of from.node) from.tuple parcel.packet said }
+    ensures flow { traffic.new.flow ≡ flow_after traffic.old.flow (states.arrives settings (carried_in traffic.old.flow.carried parcel.packet) from.hand parcel.packet result) }
+    ensures parcels { traffic.new.parcels ≡ parcels_moved from.node from.tuple (carried_in traffic.old.flow.carried parcel.packet).hops traffic.old.parcels parcel (states.arrives settings (carried_in traffic.old.flow.carried parcel.packet) from.hand parcel.packet result) }
     ensures capacities { traffic.new.capacities ≡ traffic.old.capacities }
 {
     match said {
         Landing::NoOwner => {
-            traffic.stop(hand, parcel);
+            traffic.stop(from.hand, parcel);
             Arrival::NoOwner
         }
         Landing::Owned { vm, by, pass } => {
-            let port = ports.at(here as usize, vm as usize);
-            arrive(settings, traffic, port, hand, tuple, parcel, vm, by, pass)
+            let port = ports.at(host_of(from.node) as usize, vm as usize);
+            arrive(settings, traffic, port, from, parcel, vm, by, pass)
         }
     }
 }
@@ -281,8 +299,7 @@ pub(crate) fn settle_landing(
 fn depart(
     settings: Settings,
     traffic: &mut Traffic,
-    here: Node,
-    hand: usize,
+    from: Holder,
     own: u32,
     parcel: Parcel,
     by: Name,
@@ -290,16 +307,17 @@ fn depart(
     dest: Dest,
 ) -> Departure
     requires small { IsSmall settings }
-    requires hand { hand < length traffic.old.flow.hands }
+    requires hand { from.hand < length traffic.old.flow.hands }
+    requires node { IsNode settings from.node }
     requires queues { length traffic.old.flow.queues ≡ queue_count settings }
     requires packet { parcel.packet < length traffic.old.flow.carried }
+    requires hops { (carried_in traffic.old.flow.carried parcel.packet).hops < 2 ^ 8 }
     requires capacities { (q : ℕ) → q < queue_count settings → slice_index traffic.old.capacities q ≡ capacity_at settings q }
-    requires here { IsNode settings here }
-    requires seals { HasQueue here Seal }
-    requires leads { LeadsLeaving settings (Leaving.Allowed by sealed dest) }
-    ensures departure { result ≡ departure_of settings traffic.old.flow here parcel.packet (Leaving.Allowed by sealed dest) }
-    ensures flow { traffic.new.flow ≡ flow_after traffic.old.flow (states.departs settings own hand parcel.packet here result) }
-    ensures parcels { traffic.new.parcels ≡ parcels_departed settings traffic.old.parcels here parcel result }
+    requires seals { HasQueue from.node Seal }
+    requires leads { LeadsLeaving settings own (Leaving.Allowed by sealed dest) }
+    ensures departure { result ≡ departure_of settings traffic.old.flow from.node parcel.packet (Leaving.Allowed by sealed dest) }
+    ensures flow { traffic.new.flow ≡ flow_after traffic.old.flow (states.departs settings own from.hand parcel.packet from.node result) }
+    ensures parcels { traffic.new.parcels ≡ parcels_moved from.node from.tuple (carried_in traffic.old.flow.carried parcel.packet).hops traffic.old.parcels parcel (states.departs settings own from.hand parcel.packet from.node result) }
     ensures capacities { traffic.new.capacities ≡ traffic.old.capacities }
 {
     let (target, net) = match dest {
@@ -307,10 +325,10 @@ fn depart(
         Dest::Hover { gateway } => (Endpoint::Route(gateway), own),
     };
     let end = if sealed {
-        let queue = queue_place(settings, here, Queue::Seal);
-        traffic.seal(hand, queue, parcel, net, target)
+        let queue = queue_place(settings, from.node, Queue::Seal);
+        traffic.seal(from.hand, queue, parcel, net, target)
     } else {
-        send(settings, traffic, hand, parcel, net, target)
+        send(settings, traffic, from, parcel, net, target)
     };
     Departure::Allowed {
         by,
@@ -324,40 +342,40 @@ fn depart(
 pub(crate) fn settle_leaving(
     settings: Settings,
     traffic: &mut Traffic,
-    here: Node,
-    hand: usize,
+    from: Holder,
     own: u32,
     parcel: Parcel,
     said: Leaving,
 ) -> Departure
     requires small { IsSmall settings }
-    requires hand { hand < length traffic.old.flow.hands }
+    requires hand { from.hand < length traffic.old.flow.hands }
+    requires node { IsNode settings from.node }
     requires queues { length traffic.old.flow.queues ≡ queue_count settings }
     requires packet { parcel.packet < length traffic.old.flow.carried }
+    requires hops { (carried_in traffic.old.flow.carried parcel.packet).hops < 2 ^ 8 }
     requires capacities { (q : ℕ) → q < queue_count settings → slice_index traffic.old.capacities q ≡ capacity_at settings q }
-    requires here { IsNode settings here }
-    requires seals { HasQueue here Seal }
-    requires leads { LeadsLeaving settings said }
-    ensures departure { result ≡ departure_of settings traffic.old.flow here parcel.packet said }
-    ensures flow { traffic.new.flow ≡ flow_after traffic.old.flow (states.departs settings own hand parcel.packet here result) }
-    ensures parcels { traffic.new.parcels ≡ parcels_departed settings traffic.old.parcels here parcel result }
+    requires seals { HasQueue from.node Seal }
+    requires leads { LeadsLeaving settings own said }
+    ensures departure { result ≡ departure_of settings traffic.old.flow from.node parcel.packet said }
+    ensures flow { traffic.new.flow ≡ flow_after traffic.old.flow (states.departs settings own from.hand parcel.packet from.node result) }
+    ensures parcels { traffic.new.parcels ≡ parcels_moved from.node from.tuple (carried_in traffic.old.flow.carried parcel.packet).hops traffic.old.parcels parcel (states.departs settings own from.hand parcel.packet from.node result) }
     ensures capacities { traffic.new.capacities ≡ traffic.old.capacities }
 {
     match said {
         Leaving::NoVm => {
-            traffic.stop(hand, parcel);
+            traffic.stop(from.hand, parcel);
             Departure::NoVm
         }
         Leaving::Spoofed => {
-            traffic.stop(hand, parcel);
+            traffic.stop(from.hand, parcel);
             Departure::Spoofed
         }
         Leaving::Denied { number } => {
-            traffic.stop(hand, parcel);
+            traffic.stop(from.hand, parcel);
             Departure::Denied { number }
         }
         Leaving::Allowed { by, sealed, dest } => {
-            depart(settings, traffic, here, hand, own, parcel, by, sealed, dest)
+            depart(settings, traffic, from, own, parcel, by, sealed, dest)
         }
     }
 }

@@ -3,7 +3,7 @@ ghost use Rattle.and_book.specs.Small.{small_plan};
 ghost use Rattle.and_book.specs.Views.{held};
 
 use super::*;
-use and_events::{Event, Items, Plan, Settings, Step};
+use and_events::{Actor, Event, Items, Plan, Settings, Step};
 use and_policy::NoMemory;
 use std::alloc::Global;
 use std::test::Fail;
@@ -75,9 +75,23 @@ fn a_run_of_two_steps(rt: HostRuntime) -> Result<(), Fail> {
     assert!(rt; book.next_step() == Some(Step::Wait));
     assert_eq!(rt; book.plan().settings.hosts, 1);
     run_both(&mut book);
+    assert!(rt; !book.enabled(Actor::Driver));
     assert!(rt; book.next_step().is_none());
     assert_eq!(rt; book.lines().len(), 2);
     assert!(rt; book.lines()[0].event == Event::Wait { step: 0 });
     assert!(rt; book.lines()[1].event == Event::Finish { step: 1 });
+    book.tells_a_run();
+    Ok(())
+}
+
+#[test]
+fn the_driver_alone_may_act(rt: HostRuntime) -> Result<(), Fail> {
+    let book = make_book(rt.alloc()).ok().ok_or("there is memory")?;
+    assert!(rt; book.enabled(Actor::Driver));
+    assert!(rt; !book.enabled(Actor::Controller));
+    assert!(rt; !book.enabled(Actor::HostInstall(0)));
+    assert!(rt; !book.enabled(Actor::GateInstall(1)));
+    assert!(rt; !book.enabled(Actor::Worker { host: 0, index: 1 }));
+    assert!(rt; !book.enabled(Actor::Worker { host: 0, index: 2 }));
     Ok(())
 }

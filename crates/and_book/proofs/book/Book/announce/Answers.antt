@@ -9,6 +9,7 @@ use Rattle.and_laws.specs.Fates.{in_hand_count}
 use Rattle.and_book.specs.Views.{BookView, now, IsSeat}
 use Rattle.and_book.specs.Inside.{Kept, kept_of}
 use Rattle.and_book.proofs.More.{keeps_more, seen, room_kept}
+use Rattle.and_book.proofs.Outgoing.{still}
 use Rattle.and_book.proofs.Steps.{legal_announce, after_announce, upto_programme}
 use Rattle.and_book.proofs.book.Book.announce.Goals as goal
 
@@ -26,4 +27,4 @@ invariant_of-self c =
     keeps_more plan x.threads x.lines.items c.push_reserved.new.self.items k _ _ (vec_capacity c.push_reserved.new.self - vec_len c.push_reserved.new.self) c.args.seat (Announce c.args.node c.announce-upto.result)
     c.self.invariant (legal_announce plan s c.args.node c.announce-upto.result ready upto) seat c.push_reserved.ensures.items
     (after_announce plan s k c.announce-upto.new.self c.args.node c.node_place-place.result c.announce-upto.result c.self.invariant.stands c.node_place-place.ensures.place c.announce-upto.ensures.programmes c.announce-upto.ensures.limit c.announce-upto.ensures.vms)
-    c.self.invariant.parcels fits
+    (still plan (past x.lines.items) (Announce c.args.node c.announce-upto.result) k.roads tt c.self.invariant.parcels) fits

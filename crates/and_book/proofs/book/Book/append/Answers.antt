@@ -14,6 +14,7 @@ use Rattle.and_book.proofs.More.{keeps_more, seen, room_kept}
 use Rattle.and_events.specs.declared.event.Event.TheVariants.{Append}
 use Rattle.and_book.proofs.Known.{built_entry}
 use Rattle.and_book.proofs.Plans.{log_room}
+use Rattle.and_book.proofs.Outgoing.{still}
 use Rattle.and_book.proofs.Steps.{legal_append, after_append}
 use Rattle.and_book.proofs.book.Book.append.Goals as goal
 
@@ -46,4 +47,4 @@ invariant_of-self c =
     keeps_more plan x.threads x.lines.items c.push_reserved.new.self.items k _ _ (vec_capacity c.push_reserved.new.self - vec_len c.push_reserved.new.self) c.args.seat (Append x.next)
     c.self.invariant (legal_append plan s x.next e st.next c.due_entry-entry.ensures) seat c.push_reserved.ensures.items
     (after_append plan s k c.append.new.self c.note_ports.new.ports x.next e st c.due_entry-entry.ensures c.append.ensures.programmes c.note_ports.ensures c.append.ensures.limit c.append.ensures.vms)
-    c.self.invariant.parcels fits
+    (still plan (past x.lines.items) (Append x.next) k.roads tt c.self.invariant.parcels) fits

@@ -11,6 +11,7 @@ use Rattle.and_laws.specs.Fates.{in_hand_count}
 use Rattle.and_book.specs.Views.{BookView, now, IsSeat}
 use Rattle.and_book.specs.Inside.{Kept, kept_of}
 use Rattle.and_book.proofs.More.{keeps_more, seen, room_kept}
+use Rattle.and_book.proofs.Outgoing.{still}
 use Rattle.and_book.proofs.Steps.{legal_finish, after_finish}
 use Rattle.and_book.proofs.book.Book.finish.Goals as goal
 
@@ -27,4 +28,4 @@ invariant_of-self c =
     let fits : in_hand_count k.roads.flow ≤ vec_capacity c.push_reserved.new.self - vec_len c.push_reserved.new.self = omega (arith, room, c.push_reserved.ensures.len, c.push_reserved.ensures.capacity) in
     keeps_more plan x.threads x.lines.items c.push_reserved.new.self.items k _ _ (vec_capacity c.push_reserved.new.self - vec_len c.push_reserved.new.self) c.args.seat (Finish x.next)
     c.self.invariant (legal_finish plan s x.next c.self.invariant.stands.next due ready) seat c.push_reserved.ensures.items
-    (after_finish plan s k x.next c.self.invariant.stands) c.self.invariant.parcels fits
+    (after_finish plan s k x.next c.self.invariant.stands) (still plan (past x.lines.items) (Finish x.next) k.roads tt c.self.invariant.parcels) fits

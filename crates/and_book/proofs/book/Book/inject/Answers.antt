@@ -1,4 +1,4 @@
-use Rattle.std.proofs.Common.{◌≡◌, ◌+◌, ◌<◌, ◌≤◌, ◌-◌, ◌∙◌, sym, ap, subst, vec_len, vec_capacity, length, arith, Some}
+use Rattle.std.proofs.Common.{◌≡◌, ◌+◌, ◌<◌, ◌≤◌, ◌-◌, ◌∙◌, sym, ap, subst, ◌∷◌, vec_len, vec_capacity, length, arith, Some}
 use Rattle.std.specs.Prelude.{slice_get, unwrap_or, if◌then◌else◌}
 use Rattle.std.proofs.lemmas.Option.{slice_get_within}
 use Rattle.and_events.specs.declared.event.Actor.TheVariants.{Driver}
@@ -8,7 +8,7 @@ use Rattle.and_events.specs.State.{State, state}
 use Rattle.and_events.specs.Run.{past}
 use Rattle.and_laws.specs.Fates.{in_hand_count}
 use Rattle.and_book.specs.Views.{BookView, now, IsSeat}
-use Rattle.and_book.specs.Inside.{Kept, kept_of}
+use Rattle.and_book.specs.Inside.{Kept, HasParcels, kept_of}
 use Rattle.and_book.proofs.More.{IsAfter, keeps_more, seen, room_kept}
 use Rattle.and_events.specs.declared.event.Event.TheVariants.{Inject}
 use Rattle.and_events.specs.Legal.{Legal, KnowsVm, EndsAt, inject_end}
@@ -24,7 +24,7 @@ use Rattle.and_book.specs.Views.{IsPacket}
 use Rattle.and_book.proofs.Known.{added_named, known_log}
 use Rattle.and_book.proofs.Ends.{inject_ends}
 use Rattle.and_book.proofs.Steps.{legal_inject, after_inject, enter_holds}
-use Rattle.and_book.proofs.Injecting.{all_entered}
+use Rattle.and_book.proofs.Outgoing.{injected_to}
 use Rattle.and_book.proofs.book.Book.inject.Goals as goal
 
 pub place-requires : goal.place-requires
@@ -77,4 +77,5 @@ invariant_of-self c =
     keeps_more plan x.threads x.lines.items c.push_reserved.new.self.items k k' _ (vec_capacity c.push_reserved.new.self - vec_len c.push_reserved.new.self) c.args.seat (Inject x.next c.packet-packet.result full)
     inv (subst (λ j. Legal plan s (Inject x.next j full)) packet (legal_inject plan s x.next i full st.next due ready ended)) seat c.push_reserved.ensures.items
     (subst (λ j. IsAfter plan s (Inject x.next j full) k k') packet (after_inject plan s k c.enter-full.new.self x.next i q full st there c.enter-full.ensures.flow c.enter-full.ensures.capacities))
-    (all_entered (IsPacket plan) x.traffic.parcels c.enter-full.new.self.parcels q c.args.parcel full c.enter-full.ensures.parcels parcel inv.parcels) fits
+    (subst (λ j. HasParcels plan (Inject x.next j full ∷ past x.lines.items) c.enter-full.new.self) packet
+    (injected_to plan (past x.lines.items) x.next k.roads c.enter-full.new.self c.args.parcel q full (omega (arith, ready.2, there)) c.enter-full.ensures.flow c.enter-full.ensures.parcels parcel inv.parcels)) fits

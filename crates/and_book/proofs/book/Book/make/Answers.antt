@@ -1,9 +1,12 @@
-use Rattle.std.proofs.Common.{◌+◌, ◌∙◌, refl, subst, arith}
+use Rattle.std.proofs.Common.{◌+◌, ◌∙◌, refl, ap, subst, arith}
 use Rattle.and_events.specs.declared.plan.Plan.{Plan}
+use Rattle.and_events.specs.Places.{queue_count}
+use Rattle.and_events.specs.Flow.{Flow}
 use Rattle.and_book.specs.Nets.{HasNets}
 use Rattle.and_book.specs.Inside.{Kept}
 use Rattle.and_book.proofs.NetTable.{adds_below}
 use Rattle.and_book.proofs.More.{keeps_start}
+use Rattle.and_book.proofs.Outgoing.{none_yet}
 use Rattle.and_book.proofs.Plans.{log_short}
 use Rattle.and_book.proofs.book.Book.make.Goals as goal
 
@@ -25,4 +28,4 @@ invariant_of-result c =
       vms = c.in_ok-progress.ensures.vms ∙ c.len-3.ensures;
       nets = subst (HasNets c.in_ok-nets.nets.items) c.as_slice.ensures c.in_ok-nets.ensures;
     })
-    c.in_ok-traffic.ensures.parcels
+    (none_yet plan k.roads (queue_count plan.settings) c.in_ok-traffic.ensures.parcels (ap (λ (f : Flow). f.queues) c.in_ok-traffic.ensures.flow))

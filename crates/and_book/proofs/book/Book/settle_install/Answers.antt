@@ -9,6 +9,7 @@ use Rattle.and_laws.specs.Fates.{in_hand_count}
 use Rattle.and_book.specs.Views.{BookView, now, IsSeat}
 use Rattle.and_book.specs.Inside.{Kept, kept_of}
 use Rattle.and_book.proofs.More.{keeps_more, seen, room_kept}
+use Rattle.and_book.proofs.Outgoing.{still}
 use Rattle.and_book.proofs.Steps.{legal_installed, after_installed, upto_announced}
 use Rattle.and_book.proofs.book.Book.settle_install.Goals as goal
 
@@ -26,4 +27,4 @@ invariant_of-self c =
     keeps_more plan x.threads x.lines.items c.push_reserved.new.self.items k _ _ (vec_capacity c.push_reserved.new.self - vec_len c.push_reserved.new.self) c.args.seat (Installed c.args.node c.install-upto.result)
     c.self.invariant (legal_installed plan s c.args.node c.install-upto.result ready upto) seat c.push_reserved.ensures.items
     (after_installed plan s k c.install-upto.new.self c.args.node c.node_place-place.result c.install-upto.result c.self.invariant.stands c.node_place-place.ensures.place c.install-upto.ensures.programmes c.install-upto.ensures.limit c.install-upto.ensures.vms)
-    c.self.invariant.parcels fits
+    (still plan (past x.lines.items) (Installed c.args.node c.install-upto.result) k.roads tt c.self.invariant.parcels) fits

@@ -3,6 +3,7 @@ use Rattle.std.specs.Prelude.{slice_get}
 use Rattle.and_events.specs.declared.event.Event.TheVariants.{Take}
 use Rattle.and_events.specs.declared.event.Held.{Held}
 use Rattle.and_events.specs.declared.event.Queue.{Queue}
+use Rattle.and_events.specs.declared.event.Queue.TheVariants.{Wire}
 use Rattle.and_events.specs.declared.plan.Plan.{Plan}
 use Rattle.and_events.specs.Places.{node_place, queue_place, node_of}
 use Rattle.and_events.specs.Flow.{queue_at}
@@ -12,9 +13,11 @@ use Rattle.and_events.specs.Run.{past}
 use Rattle.and_laws.specs.Fates.{in_hand_count}
 use Rattle.and_book.specs.Views.{BookView, now, IsSeat, IsPacket, MayTake, source_in}
 use Rattle.and_book.specs.Inside.{Kept, kept_of}
+use Rattle.and_book.specs.Outers.{IsSentBy}
 use Rattle.and_book.proofs.More.{IsAfter, keeps_more, seen, room_kept}
 use Rattle.and_events.specs.Legal.{Legal}
-use Rattle.and_book.proofs.Taking.{legal_take, after_take, one_held, all_without_first, first_parcel}
+use Rattle.and_book.proofs.Taking.{legal_take, after_take, one_held, first_parcel}
+use Rattle.and_book.proofs.Outgoing.{taken_from, first_sent, handles_node}
 use Rattle.and_book.proofs.book.Book.take.Goals as goal
 
 pub invariant_of-self : goal.invariant_of-self
@@ -51,10 +54,24 @@ invariant_of-self c =
     (after_take plan s k c.grab-parcel.new.self a held c.hand_place-hand.result c.queue_place-from.result c.installed-need.result q st c.hand_place-hand.ensures.place from need grabbed c.grab-parcel.ensures.flow c.grab-parcel.ensures.capacities) in
     keeps_more plan x.threads x.lines.items c.push_reserved.new.self.items k k' _ (vec_capacity c.push_reserved.new.self - vec_len c.push_reserved.new.self) c.args.seat (Take a held.queue held.packet)
     c.self.invariant legal seat c.push_reserved.ensures.items follows
-    (all_without_first (IsPacket plan) x.traffic.parcels c.grab-parcel.new.self.parcels c.queue_place-from.result c.grab-parcel.ensures.parcels c.self.invariant.parcels) fits
+    (taken_from plan (past x.lines.items) a held.queue held.packet k.roads c.grab-parcel.new.self c.hand_place-hand.result c.queue_place-from.result held
+    c.grab-parcel.ensures.flow c.grab-parcel.ensures.parcels c.self.invariant.parcels) fits
 
 pub returns-clause-parcel : goal.returns-clause-parcel
 returns-clause-parcel c =
     let x = c.self.inside in
     subst (λ (b : BookView). IsPacket b.plan c.grab-parcel.result.1) c.self.view_is
-    (first_parcel (IsPacket x.plan) x.traffic.parcels c.queue_place-from.result c.grab-parcel.result.1 c.self.invariant.parcels c.grab-parcel.ensures.parcel)
+    (first_parcel (IsPacket x.plan) x.traffic.parcels c.queue_place-from.result c.grab-parcel.result.1 c.self.invariant.parcels.packets c.grab-parcel.ensures.parcel)
+
+pub returns-clause-wire : goal.returns-clause-wire
+returns-clause-wire c is =
+    let x = c.self.inside in
+    let plan : Plan = x.plan in
+    let a = c.args.actor in
+    let q : Queue = c.source-queue.result in
+    let ready = seen x c.args.self.now c.self.view_is (λ (b : BookView). MayTake b.plan (now b) a) c.requires.ready in
+    let from : c.queue_place-from.result ≡ queue_place plan.settings (node_of a) q = c.queue_place-from.ensures.place ∙ ap (λ n. queue_place plan.settings n q) c.node_of-node.ensures in
+    let wire : q ≡ Wire = sym (ap (λ (h : Held). h.queue) c.grab-parcel.ensures.held) ∙ is in
+    subst (λ (b : BookView). IsSentBy b.plan (past b.lines) c.grab-parcel.result.1) c.self.view_is
+    (first_sent plan (past x.lines.items) (kept_of x).roads (node_of a) q c.queue_place-from.result c.grab-parcel.result.1 c.self.invariant.parcels
+    (handles_node plan.settings a ready.actor ready.handles) from wire c.grab-parcel.ensures.parcel)

@@ -1,0 +1,457 @@
+-- The parcels in the queues along a run: what each carries, and that it is its packet's.
+use Rattle.std.proofs.Common.{◌≡◌, ℕ, zero, suc, ◌+◌, ◌-◌, ◌*◌, ◌<◌, ◌≤◌, ◌^◌, Bool, true, false, cond, List, [], ◌∷◌, ◌++◌, length, drop, set, map, replicate, refl, sym, ap, ◌∙◌, subst, arith, Option, Some}
+use Rattle.std.specs.Prelude.{◌==◌, if◌then◌else◌, slice_get}
+use Rattle.std.specs.List.{All}
+use Rattle.std.proofs.Math.ListN.{get_or-map}
+use Rattle.std.proofs.lemmas.Grind.{common_steps}
+use Rattle.std.proofs.lemmas.List.{map-set, map-append, drop-map}
+use Rattle.std.proofs.lemmas.List.Elements.{All-nil, All-cons, All-head, All-tail, All-push, All-drop, All-replicate}
+use Rattle.std.proofs.lemmas.List.Sums.{sum_by-cons}
+use Rattle.and_policy.specs.declared.decision.GateDecision.{GateDecision}
+use Rattle.and_policy.specs.declared.decision.GateDecision.TheVariants as decisions
+use Rattle.and_policy.specs.declared.packet.Tuple.{Tuple}
+use Rattle.and_policy.specs.FlowHash.{flow_hash}
+use Rattle.and_policy.specs.Outer.{outer_packet, entropy_port}
+use Rattle.and_parcel.specs.Parcels.{ParcelView}
+use Rattle.and_events.specs.declared.event.Actor.{Actor}
+use Rattle.and_events.specs.declared.event.Actor.TheVariants.{HostInstall, GateInstall, Worker, Coproc, Gateway, Controller, Driver}
+use Rattle.and_events.specs.declared.event.Arrival.{Arrival}
+use Rattle.and_events.specs.declared.event.Arrival.TheVariants as arrivals
+use Rattle.and_events.specs.declared.event.Carried.{Carried}
+use Rattle.and_events.specs.declared.event.Departure.{Departure}
+use Rattle.and_events.specs.declared.event.Departure.TheVariants.{NoVm, Spoofed, Denied, Allowed}
+use Rattle.and_events.specs.declared.event.End.{End}
+use Rattle.and_events.specs.declared.event.End.TheVariants.{Queued, Full, Hops}
+use Rattle.and_events.specs.declared.event.Endpoint.{Endpoint}
+use Rattle.and_events.specs.declared.event.Endpoint.TheVariants as endpoints
+use Rattle.and_events.specs.declared.event.Event.{Event}
+use Rattle.and_events.specs.declared.event.Event.TheVariants.{Append, Inject, Wait, Finish, Announce, Installed, Take}
+use Rattle.and_events.specs.declared.event.Held.{Held}
+use Rattle.and_events.specs.declared.event.Node.{Node}
+use Rattle.and_events.specs.declared.event.Node.TheVariants.{Host, Gate}
+use Rattle.and_events.specs.declared.event.Passage.{Passage}
+use Rattle.and_events.specs.declared.event.Passage.TheVariants as passages
+use Rattle.and_events.specs.declared.event.Queue.{Queue}
+use Rattle.and_events.specs.declared.event.Queue.TheVariants.{Wire}
+use Rattle.and_events.specs.declared.event.Return.{Return}
+use Rattle.and_events.specs.declared.event.Return.TheVariants as returns
+use Rattle.and_events.specs.declared.plan.Plan.{Plan}
+use Rattle.and_events.specs.declared.plan.Settings.{Settings}
+use Rattle.and_events.specs.Places.{hand_place, queue_place, queue_count, node_of, actor_of, IsNode, IsActor}
+use Rattle.and_events.specs.Flow.{Flow, Move, Stay, Enter, Lose, Grab, Send, SealLater, Stop, flow_after, enter_by, carried_in, queue_at, hand_at, pushed, popped}
+use Rattle.and_events.specs.OuterPackets.{Sent, sent_by_move, source_address, endpoint_address}
+use Rattle.and_events.specs.State.{State, state, move_of, send, departs, passes, goes_back, arrives, dest_endpoint, dest_net, tuple_at, frame_at, carried_at}
+use Rattle.and_events.specs.Legal.{Legal}
+use Rattle.and_events.specs.Run.{Run, sends}
+use Rattle.and_events.specs.Sound.{IsSound, IsBuilt}
+use Rattle.and_laws.specs.Stages.{count_in}
+use Rattle.and_laws.proofs.Fates.{each_has_one}
+use Rattle.and_laws.proofs.Injected.{injected_once}
+use Rattle.and_laws.proofs.Hops.{hops_left}
+use Rattle.and_laws.proofs.Losses.{held_is_known}
+use Rattle.and_laws.proofs.Queues.{queue_within, wire_there}
+use Rattle.and_laws.proofs.Rows.{set_at, replicate_at}
+use Rattle.and_laws.proofs.Sizes.{sizes}
+use Rattle.and_laws.proofs.Unique.{in_no_queue}
+use Rattle.and_kept.specs.Lanes.{Roads, parcels_at, with_parcel, without_first}
+use Rattle.and_book.specs.Inside.{HasParcels}
+use Rattle.and_book.specs.Outers.{newer_sent, last_sent, IsSentBy, wrapped, parcels_moved}
+use Rattle.and_book.specs.Settling.{passage_of, return_of, gate_move}
+use Rattle.and_book.specs.Views.{IsPacket, Handles}
+use Rattle.and_book.proofs.Carrying.{IsPlainMove, event_plain, plain_flow}
+use Rattle.and_book.proofs.Injecting.{all_with, all_entered}
+use Rattle.and_book.proofs.Taking.{all_without_first, first_of}
+
+-- ---- the packets' numbers
+
+abbrev packets_in : List ParcelView → List ℕ
+packets_in ps = map (λ p. p.packet) ps
+
+abbrev numbers_of : List (List ParcelView) → List (List ℕ)
+numbers_of parcels = map (λ ps. map (λ p. p.packet) ps) parcels
+
+numbers_at : (parcels : List (List ParcelView)) (q : ℕ) → queue_at (numbers_of parcels) q ≡ packets_in (parcels_at parcels q)
+numbers_at parcels q = get_or-map (λ (ps : List ParcelView). map (λ (p : ParcelView). p.packet) ps) parcels q []
+
+numbers_with : (parcels : List (List ParcelView)) (q : ℕ) (p : ParcelView) → numbers_of (with_parcel parcels q p) ≡ pushed (numbers_of parcels) q p.packet
+numbers_with parcels q p =
+    map-set (λ (ps : List ParcelView). map (λ (p : ParcelView). p.packet) ps) parcels q (parcels_at parcels q ++ p ∷ [])
+    ∙ ap (set (numbers_of parcels) q)
+    (map-append (λ (x : ParcelView). x.packet) (parcels_at parcels q) (p ∷ []) ∙ ap (λ xs. xs ++ p.packet ∷ []) (sym (numbers_at parcels q)))
+
+numbers_without : (parcels : List (List ParcelView)) (q : ℕ) → numbers_of (without_first parcels q) ≡ popped (numbers_of parcels) q
+numbers_without parcels q =
+    map-set (λ (ps : List ParcelView). map (λ (p : ParcelView). p.packet) ps) parcels q (drop 1 (parcels_at parcels q))
+    ∙ ap (set (numbers_of parcels) q)
+    (sym (drop-map (λ (x : ParcelView). x.packet) 1 (parcels_at parcels q)) ∙ ap (drop 1) (sym (numbers_at parcels q)))
+
+-- ---- the newest send of a packet that an event does not send
+
+abbrev SendsNot : ℕ → Move → Type 0
+SendsNot i (Send a q j net target) = j ≡ i → ⊥
+SendsNot i _ = Unit {0}
+
+if_other : (j i : ℕ) (x y : Option Sent) → (j ≡ i → ⊥) → (if j == i then x else y) ≡ y
+if_other j i x y n = grind (arith, common_steps)
+
+if_same : (j i : ℕ) (x y : Option Sent) → j ≡ i → (if j == i then x else y) ≡ x
+if_same j i x y e = grind (arith, common_steps)
+
+not_newer : (plan : Plan) (h : List Event) (here : Node) (i : ℕ) (m : Move) (older : Option Sent) → SendsNot i m → newer_sent i (sent_by_move plan h here m) older ≡ older
+not_newer plan h here i (Send a q j net target) older other = if_other j i _ older other
+not_newer plan h here i Stay older other = refl
+not_newer plan h here i (Enter q j) older other = refl
+not_newer plan h here i (Lose j) older other = refl
+not_newer plan h here i (Grab a q g) older other = refl
+not_newer plan h here i (SealLater a q j net target) older other = refl
+not_newer plan h here i (Stop a j) older other = refl
+
+-- no packet among these is sent
+abbrev pub SendsNone : Move → List ParcelView → Type 0
+SendsNone (Send a q j net target) ps = count_in j (packets_in ps) ≡ 0
+SendsNone _ ps = Unit {0}
+
+first_not : (j x : ℕ) (xs : List ℕ) → count_in j (x ∷ xs) ≡ 0 → j ≡ x → ⊥
+first_not j x xs none e =
+    let c = sum_by-cons (λ y. cond (y == j) 1 0) x xs in
+    grind (arith, common_steps, c, none, e)
+
+rest_none : (j x : ℕ) (xs : List ℕ) → count_in j (x ∷ xs) ≡ 0 → count_in j xs ≡ 0
+rest_none j x xs none = omega (arith, sum_by-cons (λ y. cond (y == j) 1 0) x xs, none)
+
+sends_first : (m : Move) (p : ParcelView) (ps : List ParcelView) → SendsNone m (p ∷ ps) → SendsNot p.packet m × SendsNone m ps
+sends_first (Send a q j net target) p ps none = (first_not j p.packet (packets_in ps) none, rest_none j p.packet (packets_in ps) none)
+sends_first Stay p ps none = (tt, tt)
+sends_first (Enter q j) p ps none = (tt, tt)
+sends_first (Lose j) p ps none = (tt, tt)
+sends_first (Grab a q g) p ps none = (tt, tt)
+sends_first (SealLater a q j net target) p ps none = (tt, tt)
+sends_first (Stop a j) p ps none = (tt, tt)
+
+module _ (plan : Plan) (h : List Event) (e : Event) (m : Move) (is : move_of plan (state plan h) e ≡ m) where
+  newest_kept : (i : ℕ) → SendsNot i m → last_sent plan (e ∷ h) i ≡ last_sent plan h i
+  unfolding last_sent
+  newest_kept i other =
+      ap (λ x. newer_sent i (sent_by_move plan h (node_of (actor_of e)) x) (last_sent plan h i)) is
+      ∙ not_newer plan h (node_of (actor_of e)) i m (last_sent plan h i) other
+
+  sent_kept : (p : ParcelView) → SendsNot p.packet m → IsSentBy plan h p → IsSentBy plan (e ∷ h) p
+  sent_kept p other s = record { sent = s.sent; newest = newest_kept p.packet other ∙ s.newest; bytes = s.bytes }
+
+  -- parcels of packets that are not sent keep the bytes of their newest sends
+  pub all_kept : (ps : List ParcelView) → SendsNone m ps → All (IsSentBy plan h) ps → All (IsSentBy plan (e ∷ h)) ps
+  all_kept [] none all = All-nil (IsSentBy plan (e ∷ h))
+  all_kept (p ∷ ps) none all =
+      let parts = sends_first m p ps none in
+      All-cons (IsSentBy plan (e ∷ h)) p ps (sent_kept p parts.0 (All-head (IsSentBy plan h) p ps all))
+      (all_kept ps parts.1 (All-tail (IsSentBy plan h) p ps all))
+
+-- ---- a new send
+
+envelope_is : (s s' d t t' v o o' : ℕ) (b b' : Bool) → s ≡ s' → t ≡ t' → o ≡ o' → b ≡ b' → (frame frame' : List ℕ) → frame ≡ frame'
+    → outer_packet (record { source = s; destination = d; ttl = t; vni = v; source_port = o; sealed = b }) frame
+    ≡ outer_packet (record { source = s'; destination = d; ttl = t'; vni = v; source_port = o'; sealed = b' }) frame'
+envelope_is s s' d t t' v o o' b b' es et eo eb frame frame' ef = rw (es, et, eo, eb, ef) refl
+
+-- what is known of a packet that is settled
+pub record Facts (plan : Plan) (h : List Event) (e : Event) (p : ParcelView) (here : Node) (x : Tuple) (hops : ℕ) : Type 0 where
+  pub node : here ≡ node_of (actor_of e)
+  pub tuple : x ≡ tuple_at plan p.packet
+  pub left : sends plan h p.packet + hops ≡ plan.settings.hop_limit
+  pub unsealed : (carried_at (state plan h) p.packet).sealed ≡ false
+  pub packet : IsPacket plan p
+  pub nowhere : (q : ℕ) → q < length (state plan h).flow.queues → count_in p.packet (queue_at (state plan h).flow.queues q) ≡ 0
+
+module _ (plan : Plan) (h : List Event) (e : Event) (p : ParcelView) (here : Node) (x : Tuple) (hops : ℕ) (f : Facts plan h e p here x hops) where
+  new_sent : (a q j net : ℕ) (target : Endpoint) → move_of plan (state plan h) e ≡ Send a q j net target → j ≡ p.packet → IsSentBy plan (e ∷ h) (wrapped here x hops p net target)
+  unfolding last_sent
+  new_sent a q j net target is of =
+      let i = p.packet in
+      let ttl : hops ≡ plan.settings.hop_limit - sends plan h j = omega (arith, f.left, ap (sends plan h) of) in
+      record {
+        sent = record {
+          packet = j;
+          outer = record {
+            source = source_address (node_of (actor_of e));
+            destination = endpoint_address target;
+            ttl = plan.settings.hop_limit - sends plan h j;
+            vni = net;
+            source_port = entropy_port (flow_hash (tuple_at plan j));
+            sealed = (carried_at (state plan h) j).sealed;
+          };
+        };
+        newest =
+            ap (λ y. newer_sent i (sent_by_move plan h (node_of (actor_of e)) y) (last_sent plan h i)) is
+            ∙ if_same j i _ (last_sent plan h i) of;
+        bytes = envelope_is _ _ (endpoint_address target) _ _ net _ _ _ _ (ap source_address f.node) ttl
+            (ap (λ t. entropy_port (flow_hash t)) (f.tuple ∙ ap (tuple_at plan) (sym of)))
+            (sym (ap (λ k. (carried_at (state plan h) k).sealed) of ∙ f.unsealed)) _ _ (f.packet.frame ∙ ap (frame_at plan) (sym of));
+      }
+
+-- the move is of this packet, from a hand
+abbrev pub IsOf : ℕ → Move → Type 0
+IsOf i (Send a q j net target) = j ≡ i
+IsOf i (SealLater a q j net target) = j ≡ i
+IsOf i (Stop a j) = j ≡ i
+IsOf i _ = ⊥
+
+-- ---- a settled packet
+
+module _ (plan : Plan) (h : List Event) (e : Event) (p : ParcelView) (here : Node) (x : Tuple) (hops : ℕ) (f : Facts plan h e p here x hops) (roads : Roads) (all : HasParcels plan h roads) (stands : roads.flow ≡ (state plan h).flow) (sized : length (state plan h).flow.queues ≡ queue_count plan.settings) where
+  packets_moved : (m : Move) → All (λ ps. All (IsPacket plan) ps) (parcels_moved here x hops roads.parcels p m)
+  packets_moved (Send a q j net target) =
+      all_with (IsPacket plan) roads.parcels q (wrapped here x hops p net target) (record { frame = f.packet.frame; vm = f.packet.vm }) all.packets
+  packets_moved (SealLater a q j net target) = all_with (IsPacket plan) roads.parcels q p f.packet all.packets
+  packets_moved Stay = all.packets
+  packets_moved (Enter q j) = all.packets
+  packets_moved (Lose j) = all.packets
+  packets_moved (Grab a q g) = all.packets
+  packets_moved (Stop a j) = all.packets
+
+  numbers_moved : (m : Move) → IsOf p.packet m → numbers_of (parcels_moved here x hops roads.parcels p m) ≡ (flow_after roads.flow m).queues
+  unfolding flow_after
+  numbers_moved (Send a q j net target) of =
+      numbers_with roads.parcels q (wrapped here x hops p net target)
+      ∙ (ap (λ qs. pushed qs q p.packet) all.numbers ∙ ap (pushed roads.flow.queues q) (sym of))
+  numbers_moved (SealLater a q j net target) of =
+      numbers_with roads.parcels q p ∙ (ap (λ qs. pushed qs q p.packet) all.numbers ∙ ap (pushed roads.flow.queues q) (sym of))
+  numbers_moved (Stop a j) of = all.numbers
+  numbers_moved Stay of = absurd of
+  numbers_moved (Enter q j) of = absurd of
+  numbers_moved (Lose j) of = absurd of
+  numbers_moved (Grab a q g) of = absurd of
+
+  -- the packet is in no `wire` queue
+  none_in_wire : (node : Node) → IsNode plan.settings node → (j : ℕ) → j ≡ p.packet → count_in j (packets_in (parcels_at roads.parcels (queue_place plan.settings node Wire))) ≡ 0
+  none_in_wire node there j of =
+      let w = queue_place plan.settings node Wire in
+      let within : w < length (state plan h).flow.queues = omega (arith, queue_within plan.settings node Wire there (wire_there node), sized) in
+      let queue : queue_at (state plan h).flow.queues w ≡ packets_in (parcels_at roads.parcels w) =
+      ap (λ g. queue_at g.queues w) (sym stands) ∙ (ap (λ qs. queue_at qs w) (sym all.numbers) ∙ numbers_at roads.parcels w) in
+      ap (count_in j) (sym queue) ∙ (ap (λ i. count_in i (queue_at (state plan h).flow.queues w)) of ∙ f.nowhere w within)
+
+  outers_moved : (m : Move) → move_of plan (state plan h) e ≡ m → IsOf p.packet m → IsPlainMove m → (node : Node) → IsNode plan.settings node → All (IsSentBy plan (e ∷ h)) (parcels_at (parcels_moved here x hops roads.parcels p m) (queue_place plan.settings node Wire))
+  outers_moved (Send a q j net target) is of plain node there =
+      let w = queue_place plan.settings node Wire in
+      let old = all_kept plan h e (Send a q j net target) is (parcels_at roads.parcels w) (none_in_wire node there j of) (all.outers node there) in
+      let new = wrapped here x hops p net target in
+      set_at roads.parcels q w (parcels_at roads.parcels q ++ new ∷ []) [] (All (IsSentBy plan (e ∷ h))) old
+      (λ same. All-push (IsSentBy plan (e ∷ h)) (parcels_at roads.parcels q) new
+      (subst (λ k. All (IsSentBy plan (e ∷ h)) (parcels_at roads.parcels k)) (sym same) old) (new_sent plan h e p here x hops f a q j net target is of))
+  outers_moved (Stop a j) is of plain node there =
+      all_kept plan h e (Stop a j) is (parcels_at roads.parcels (queue_place plan.settings node Wire)) tt (all.outers node there)
+  outers_moved (SealLater a q j net target) is of plain node there = absurd plain
+  outers_moved Stay is of plain node there = absurd of
+  outers_moved (Enter q j) is of plain node there = absurd of
+  outers_moved (Lose j) is of plain node there = absurd of
+  outers_moved (Grab a q g) is of plain node there = absurd of
+
+  pub settled : (roads' : Roads) (m : Move) → move_of plan (state plan h) e ≡ m → IsOf p.packet m → IsPlainMove m → roads'.flow ≡ flow_after roads.flow m → roads'.parcels ≡ parcels_moved here x hops roads.parcels p m → HasParcels plan (e ∷ h) roads'
+  settled roads' m is of plain flow parcels =
+      record {
+        packets = subst (All (λ ps. All (IsPacket plan) ps)) (sym parcels) (packets_moved m);
+        numbers = ap numbers_of parcels ∙ (numbers_moved m of ∙ ap (λ (g : Flow). g.queues) (sym flow));
+        outers = λ node there. subst (λ ps. All (IsSentBy plan (e ∷ h)) (parcels_at ps (queue_place plan.settings node Wire))) (sym parcels)
+            (outers_moved m is of plain node there);
+      }
+
+-- a packet in hand is in no queue
+pub nowhere : (plan : Plan) (h : List Event) (a : Actor) (i need : ℕ) (q : Queue) → IsSound plan → Run plan h → hand_at (state plan h).flow.hands (hand_place plan.settings a) ≡ Some (record { packet = i; need = need; queue = q }) → (k : ℕ) → k < length (state plan h).flow.queues → count_in i (queue_at (state plan h).flow.queues k) ≡ 0
+nowhere plan h a i need q sound r has k there =
+    let g : Held = record { packet = i; need = need; queue = q } in
+    in_no_queue i (hand_place plan.settings a) g (state plan h).flow has refl (omega (arith, each_has_one plan h r i, (injected_once plan h sound r).once i)) k there
+
+-- ---- the other events
+
+-- no packet moves
+pub quiet : (plan : Plan) (h : List Event) (e : Event) (roads : Roads) → move_of plan (state plan h) e ≡ Stay → HasParcels plan h roads → HasParcels plan (e ∷ h) roads
+quiet plan h e roads is all =
+    record {
+      packets = all.packets;
+      numbers = all.numbers;
+      outers = λ node there. all_kept plan h e Stay is (parcels_at roads.parcels (queue_place plan.settings node Wire)) tt (all.outers node there);
+    }
+
+-- the first one of a queue is taken
+pub taken : (plan : Plan) (h : List Event) (e : Event) (roads roads' : Roads) (hand from a q : ℕ) (g held : Held) → move_of plan (state plan h) e ≡ Grab a q g → roads'.flow ≡ flow_after roads.flow (Grab hand from held) → roads'.parcels ≡ without_first roads.parcels from → HasParcels plan h roads → HasParcels plan (e ∷ h) roads'
+unfolding flow_after
+taken plan h e roads roads' hand from a q g held is flow parcels all =
+    record {
+      packets = all_without_first (IsPacket plan) roads.parcels roads'.parcels from parcels all.packets;
+      numbers = ap numbers_of parcels ∙ (numbers_without roads.parcels from ∙ (ap (λ qs. popped qs from) all.numbers ∙ ap (λ (f : Flow). f.queues) (sym flow)));
+      outers = λ node there.
+          let w = queue_place plan.settings node Wire in
+          let old = all_kept plan h e (Grab a q g) is (parcels_at roads.parcels w) tt (all.outers node there) in
+          subst (λ ps. All (IsSentBy plan (e ∷ h)) (parcels_at ps w)) (sym parcels)
+          (set_at roads.parcels from w (drop 1 (parcels_at roads.parcels from)) [] (All (IsSentBy plan (e ∷ h))) old
+          (λ same. All-drop (IsSentBy plan (e ∷ h)) 1 (parcels_at roads.parcels from)
+          (subst (λ k. All (IsSentBy plan (e ∷ h)) (parcels_at roads.parcels k)) (sym same) old)));
+    }
+
+wire_after : (v : Settings) (node : Node) → 2 * v.hosts ≤ queue_place v node Wire
+wire_after v (Host h) = omega arith
+wire_after v (Gate g) = omega arith
+
+numbers_entered : (parcels : List (List ParcelView)) (f : Flow) (q : ℕ) (p : ParcelView) (full : Bool) → numbers_of parcels ≡ f.queues → numbers_of (cond full parcels (with_parcel parcels q p)) ≡ (flow_after f (enter_by q p.packet full)).queues
+unfolding flow_after
+numbers_entered parcels f q p true is = is
+numbers_entered parcels f q p false is = numbers_with parcels q p ∙ ap (λ qs. pushed qs q p.packet) is
+
+enters_none : (q i : ℕ) (full : Bool) (ps : List ParcelView) → SendsNone (enter_by q i full) ps
+enters_none q i true ps = tt
+enters_none q i false ps = tt
+
+outside : (P : List ParcelView → Type 0) (parcels : List (List ParcelView)) (q w : ℕ) (p : ParcelView) (full : Bool) → (q ≡ w → ⊥) → P (parcels_at parcels w) → P (parcels_at (cond full parcels (with_parcel parcels q p)) w)
+outside P parcels q w p true other old = old
+outside P parcels q w p false other old = set_at parcels q w (parcels_at parcels q ++ p ∷ []) [] P old (λ same. absurd (other same))
+
+-- a packet comes to an `out` queue, or is lost there
+pub entered : (plan : Plan) (h : List Event) (e : Event) (roads roads' : Roads) (p : ParcelView) (q k : ℕ) (full : Bool) → move_of plan (state plan h) e ≡ enter_by k p.packet full → q < plan.settings.hosts → roads'.flow ≡ flow_after roads.flow (enter_by q p.packet full) → roads'.parcels ≡ cond full roads.parcels (with_parcel roads.parcels q p) → IsPacket plan p → HasParcels plan h roads → HasParcels plan (e ∷ h) roads'
+entered plan h e roads roads' p q k full is out flow parcels ok all =
+    record {
+      packets = all_entered (IsPacket plan) roads.parcels roads'.parcels q p full parcels ok all.packets;
+      numbers = ap numbers_of parcels ∙ (numbers_entered roads.parcels roads.flow q p full all.numbers ∙ ap (λ (f : Flow). f.queues) (sym flow));
+      outers = λ node there.
+          let w = queue_place plan.settings node Wire in
+          let old = all_kept plan h e (enter_by k p.packet full) is (parcels_at roads.parcels w) (enters_none k p.packet full (parcels_at roads.parcels w)) (all.outers node there) in
+          subst (λ ps. All (IsSentBy plan (e ∷ h)) (parcels_at ps w)) (sym parcels)
+          (outside (All (IsSentBy plan (e ∷ h))) roads.parcels q w p full (λ same. omega (arith, wire_after plan.settings node, out, same)) old);
+    }
+
+-- no parcels at the start
+numbers_none : (n : ℕ) → numbers_of (replicate n []) ≡ replicate n []
+numbers_none zero = refl
+numbers_none (suc n) = ap (λ (qs : List (List ℕ)). [] ∷ qs) (numbers_none n)
+
+pub none_yet : (plan : Plan) (roads : Roads) (n : ℕ) → roads.parcels ≡ replicate n [] → roads.flow.queues ≡ replicate n [] → HasParcels plan [] roads
+none_yet plan roads n parcels queues =
+    let empty : List ParcelView = [] in
+    record {
+      packets = subst (λ ps. All (λ qs. All (IsPacket plan) qs) ps) (sym parcels) (All-replicate (λ qs. All (IsPacket plan) qs) n empty (All-nil (IsPacket plan)));
+      numbers = ap numbers_of parcels ∙ (numbers_none n ∙ sym queues);
+      outers = λ node there.
+          let w = queue_place plan.settings node Wire in
+          subst (All (IsSentBy plan [])) (sym (ap (λ ps. parcels_at ps w) parcels ∙ replicate_at n w empty)) (All-nil (IsSentBy plan []));
+    }
+
+-- ---- settled packets
+
+module _ (v : Settings) (a i : ℕ) where
+  send_of : (end : End) (target : Endpoint) (net : ℕ) → IsOf i (send v a i end target net)
+  send_of Queued target net = refl
+  send_of Full target net = refl
+  send_of Hops target net = refl
+
+  pub departs_of : (own : ℕ) (here : Node) (d : Departure) → IsOf i (departs v own a i here d)
+  departs_of own here NoVm = refl
+  departs_of own here Spoofed = refl
+  departs_of own here (Denied n) = refl
+  departs_of own here (Allowed by true dest Queued) = refl
+  departs_of own here (Allowed by true dest Full) = refl
+  departs_of own here (Allowed by true dest Hops) = refl
+  departs_of own here (Allowed by false dest end) = send_of end (dest_endpoint dest) (dest_net own dest)
+
+  passes_of : (p : Passage) → IsOf i (passes v a i p)
+  passes_of (passages.Send by net host end) = send_of end (endpoints.Host host) net
+  passes_of (passages.Dropped by) = refl
+  passes_of (passages.NoOwner by) = refl
+  passes_of (passages.Hops by) = refl
+
+  returns_of : (c : Carried) (b : Return) → IsOf i (goes_back v c a i b)
+  returns_of c (returns.Send host end) = send_of end (endpoints.Host host) c.net
+  returns_of c returns.NoOwner = refl
+  returns_of c returns.Hops = refl
+
+  pub arrives_of : (c : Carried) (x : Arrival) → IsOf i (arrives v c a i x)
+  arrives_of c (arrivals.Hairpin vm host end) = send_of end (endpoints.Host host) c.net
+  arrives_of c (arrivals.Absent vm g end) = send_of end (endpoints.Redirect g) c.net
+  arrives_of c arrivals.NoOwner = refl
+  arrives_of c (arrivals.Running vm by pass) = refl
+  arrives_of c (arrivals.Blackout vm) = refl
+
+  pub gate_of : (f : Flow) (d : GateDecision) → IsOf i (gate_move v f a i d)
+  gate_of f (decisions.Routed at said) = passes_of (passage_of v f i said)
+  gate_of f (decisions.Located at said) = returns_of (carried_in f.carried i) (return_of v f i said)
+
+-- the packet in a hand is settled by an event
+pub settles : (plan : Plan) (h : List Event) (e : Event) (a : Actor) (need : ℕ) (q : Queue) (p : ParcelView) (here : Node) (x : Tuple) (m : Move) (roads roads' : Roads) →
+    IsSound plan → IsBuilt plan → Run plan h → Legal plan (state plan h) e → IsPacket plan p
+    → hand_at (state plan h).flow.hands (hand_place plan.settings a) ≡ Some (record { packet = p.packet; need = need; queue = q })
+    → roads.flow ≡ (state plan h).flow → here ≡ node_of (actor_of e) → x ≡ tuple_at plan p.packet → m ≡ move_of plan (state plan h) e → IsOf p.packet m
+    → roads'.flow ≡ flow_after roads.flow m → roads'.parcels ≡ parcels_moved here x (carried_in roads.flow.carried p.packet).hops roads.parcels p m
+    → HasParcels plan h roads → HasParcels plan (e ∷ h) roads'
+settles plan h e a need q p here x m roads roads' sound built r legal ok has stands node tuple move of flow parcels all =
+    let i = p.packet in
+    let g : Held = record { packet = i; need = need; queue = q } in
+    let plain = plain_flow plan h sound built r in
+    let left = hops_left plan h r i (held_is_known plan h (hand_place plan.settings a) i sound r (g, has, refl)) in
+    let facts : Facts plan h e p here x (carried_in roads.flow.carried i).hops = record {
+      node = node;
+      tuple = tuple;
+      left = ap (λ (f : Flow). sends plan h i + (carried_in f.carried i).hops) stands ∙ left;
+      unsealed = (plain i).sealed;
+      packet = ok;
+      nowhere = nowhere plan h a i need q sound r has;
+    } in
+    settled plan h e p here x (carried_in roads.flow.carried i).hops facts roads all stands (sizes plan h).queues roads' m (sym move) of
+    (subst IsPlainMove (sym move) (event_plain plan h sound built r e legal plain)) flow parcels
+
+-- ---- events that move no packet
+
+abbrev pub MovesNone : Event → Type 0
+MovesNone (Append n) = Unit {0}
+MovesNone (Wait n) = Unit {0}
+MovesNone (Finish n) = Unit {0}
+MovesNone (Announce node upto) = Unit {0}
+MovesNone (Installed node upto) = Unit {0}
+MovesNone _ = ⊥
+
+stays : (plan : Plan) (s : State) (e : Event) → MovesNone e → move_of plan s e ≡ Stay
+unfolding move_of
+stays plan s (Append n) t = refl
+stays plan s (Wait n) t = refl
+stays plan s (Finish n) t = refl
+stays plan s (Announce node upto) t = refl
+stays plan s (Installed node upto) t = refl
+stays plan s e t = absurd t
+
+pub still : (plan : Plan) (h : List Event) (e : Event) (roads : Roads) → MovesNone e → HasParcels plan h roads → HasParcels plan (e ∷ h) roads
+still plan h e roads t all = quiet plan h e roads (stays plan (state plan h) e t) all
+
+-- ---- what the code asks for
+
+-- a packet in hand is one of the plan, and its hops fit a TTL
+pub hops_fit : (plan : Plan) (h : List Event) (f : Flow) (a : Actor) (i need : ℕ) (q : Queue) → IsSound plan → Run plan h → hand_at (state plan h).flow.hands (hand_place plan.settings a) ≡ Some (record { packet = i; need = need; queue = q }) → f ≡ (state plan h).flow → (carried_in f.carried i).hops < 2 ^ 8
+hops_fit plan h f a i need q sound r has stands =
+    let g : Held = record { packet = i; need = need; queue = q } in
+    let left = hops_left plan h r i (held_is_known plan h (hand_place plan.settings a) i sound r (g, has, refl)) in
+    omega (arith, left, sound.settings.hop_limit.1, ap (λ (f : Flow). (carried_in f.carried i).hops) stands)
+
+pub net_fits : (plan : Plan) (h : List Event) (f : Flow) (i : ℕ) → IsSound plan → IsBuilt plan → Run plan h → f ≡ (state plan h).flow → (carried_in f.carried i).net < 2 ^ 24
+net_fits plan h f i sound built r stands = subst (λ (f : Flow). (carried_in f.carried i).net < 2 ^ 24) (sym stands) (plain_flow plan h sound built r i).net
+
+-- what is taken from `wire` has the bytes of its packet's newest send
+pub first_sent : (plan : Plan) (h : List Event) (roads : Roads) (node : Node) (q : Queue) (from : ℕ) (p : ParcelView) → HasParcels plan h roads → IsNode plan.settings node → from ≡ queue_place plan.settings node q → q ≡ Wire → slice_get (parcels_at roads.parcels from) 0 ≡ Some p → IsSentBy plan h p
+first_sent plan h roads node q from p all there place is first =
+    let at : from ≡ queue_place plan.settings node Wire = place ∙ ap (queue_place plan.settings node) is in
+    first_of (IsSentBy plan h) (parcels_at roads.parcels (queue_place plan.settings node Wire)) p (all.outers node there)
+    (subst (λ k. slice_get (parcels_at roads.parcels k) 0 ≡ Some p) at first)
+
+pub handles_node : (v : Settings) (a : Actor) → IsActor v a → Handles a → IsNode v (node_of a)
+handles_node v (Worker h w) is t = is.0
+handles_node v (Coproc h) is t = is
+handles_node v (Gateway g) is t = is
+handles_node v (HostInstall h) is t = absurd t
+handles_node v (GateInstall g) is t = absurd t
+handles_node v Controller is t = absurd t
+handles_node v Driver is t = absurd t
+
+-- ---- takes and injections
+
+pub taken_from : (plan : Plan) (h : List Event) (a : Actor) (q : Queue) (i : ℕ) (roads roads' : Roads) (hand from : ℕ) (held : Held) → roads'.flow ≡ flow_after roads.flow (Grab hand from held) → roads'.parcels ≡ without_first roads.parcels from → HasParcels plan h roads → HasParcels plan (Take a q i ∷ h) roads'
+unfolding move_of
+taken_from plan h a q i roads roads' hand from held flow parcels all = taken plan h (Take a q i) roads roads' hand from _ _ _ held refl flow parcels all
+
+pub injected_to : (plan : Plan) (h : List Event) (n : ℕ) (roads roads' : Roads) (p : ParcelView) (q : ℕ) (full : Bool) → q < plan.settings.hosts → roads'.flow ≡ flow_after roads.flow (enter_by q p.packet full) → roads'.parcels ≡ cond full roads.parcels (with_parcel roads.parcels q p) → IsPacket plan p → HasParcels plan h roads → HasParcels plan (Inject n p.packet full ∷ h) roads'
+unfolding move_of
+injected_to plan h n roads roads' p q full out flow parcels ok all = entered plan h (Inject n p.packet full) roads roads' p q _ full refl out flow parcels ok all

@@ -1,0 +1,9 @@
+pub mod Texts
+pub mod Past
+pub mod NetLemmas
+pub mod Counting
+pub mod KeyLemmas
+pub mod OrderLemmas
+pub mod VmLemmas
+pub mod Adding
+pub mod Ended

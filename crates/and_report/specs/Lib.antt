@@ -1,0 +1,11 @@
+pub mod Report
+pub mod Tally
+pub mod Fates
+pub mod Nets
+pub mod Counts
+pub mod Keys
+pub mod Totals
+pub mod Vms
+pub mod Orders
+pub mod Rows
+pub mod Sums

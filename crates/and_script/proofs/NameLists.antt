@@ -1,5 +1,5 @@
 -- Lists of names, seen as lists of bytes.
-use Rattle.std.proofs.Common.{◌≡◌, ◌≤◌, ℕ, ◌+◌, Bool, true, false, List, [], ◌∷◌, ◌++◌, length, map, cond, refl, ap, sym, ◌∙◌, string_bytes, bytes_eq, arith, String, Global, not, ◌||◌}
+use Rattle.std.proofs.Common.{◌≡◌, ◌+◌, Bool, true, false, List, [], ◌∷◌, ◌++◌, map, cond, refl, ap, sym, ◌∙◌, string_bytes, bytes_eq, String, Global, not, ◌||◌}
 use Rattle.std.specs.Bool.{if◌then◌else◌}
 use Rattle.std.specs.String.{string_eq}
 use Rattle.std.specs.List.{list_any, position_or_len, prefix_len}

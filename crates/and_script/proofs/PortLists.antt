@@ -1,5 +1,5 @@
 -- Lists that are no range of ports.
-use Rattle.std.proofs.Common.{◌≡◌, ℕ, List, [], ◌∷◌, length, refl, Result, Err, Some}
+use Rattle.std.proofs.Common.{◌≡◌, List, [], ◌∷◌, length, refl, Err, Some}
 use Rattle.serde_json.specs.declared.value.Value.{Value}
 use Rattle.serde_json.specs.View.{items_view}
 use Rattle.and_script.specs.declared.tables.Cause.TheVariants.{Field}

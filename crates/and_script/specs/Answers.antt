@@ -1,7 +1,6 @@
 -- What the readers answer, beside what the definitions say.
-use Rattle.std.specs.Prelude.{◌≡◌, ℕ, Bool, true, false, List, [], ◌∷◌, ◌++◌, map, Option, Some, None, Result, Ok, Err, codes}
+use Rattle.std.specs.Prelude.{◌≡◌, ℕ, Bool, true, false, List, [], ◌∷◌, ◌++◌, Option, Some, None, Result, Ok, Err, codes}
 use Rattle.serde_json.specs.Data.{Data, Members}
-use Rattle.serde_json.specs.Find.{as_object}
 use Rattle.and_script.specs.declared.refusal.Refusal.{Refusal}
 use Rattle.and_script.specs.declared.refusal.Refusal.TheVariants.{At, Whole, NoMemory}
 use Rattle.and_script.specs.declared.tables.Given.{Given}

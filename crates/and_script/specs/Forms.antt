@@ -1,6 +1,6 @@
 -- What the fields of a scenario may hold: which JSON values a form takes, and what each gives. A value of the wrong kind is `Field`, one outside
 -- its form is `Range`.
-use Rattle.std.specs.Prelude.{ℕ, ◌==◌, ◌&&◌, Bool, true, false, nat_le, if◌then◌else◌, List, [], ◌∷◌, Option, Some, None, option_and_then, option_map, Result, Ok, Err, codes, bytes_eq}
+use Rattle.std.specs.Prelude.{ℕ, ◌&&◌, Bool, true, false, nat_le, if◌then◌else◌, List, Option, Some, None, option_and_then, option_map, Result, Ok, Err, codes, bytes_eq}
 use Rattle.and_policy.specs.declared.entry.Side.TheVariants.{Egress, Ingress}
 use Rattle.and_events.specs.declared.plan.What.TheVariants.{Install, Forward}
 use Rattle.serde_json.specs.Data.{Data, Items, no_items, item}

@@ -1,5 +1,5 @@
 -- Which bytes are a scenario, and which one; otherwise the first check that fails, and where.
-use Rattle.std.specs.Prelude.{◌≡◌, ℕ, suc, ◌+◌, ◌==◌, ◌&&◌, ◌||◌, not, Bool, true, false, nat_lt, nat_le, if◌then◌else◌, List, [], ◌∷◌, ◌++◌, length, map, Option, Some, None, Result, Ok, Err, codes, bytes_eq}
+use Rattle.std.specs.Prelude.{◌≡◌, ℕ, suc, not, Bool, true, false, nat_lt, if◌then◌else◌, List, [], ◌∷◌, ◌++◌, map, Option, Some, None, Result, Ok, Err, codes, bytes_eq}
 use Rattle.std.specs.List.{list_any, position_or_len}
 use Rattle.std.specs.Str.{IsUtf8}
 use Rattle.std.specs.Fmt.{decimal}
@@ -7,7 +7,6 @@ use Rattle.and_policy.specs.declared.entry.Side.{Side}
 use Rattle.and_policy.specs.declared.entry.Side.TheVariants as sides
 use Rattle.and_policy.specs.declared.entry.Target.{Target}
 use Rattle.and_policy.specs.declared.entry.Target.TheVariants as targets
-use Rattle.and_policy.specs.declared.entry.Entry.{Entry}
 use Rattle.and_policy.specs.declared.entry.Entry.TheVariants as entries
 use Rattle.and_events.specs.declared.plan.Item.{Item}
 use Rattle.and_events.specs.declared.plan.Item.TheVariants as items

@@ -3,3 +3,4 @@ pub mod Forms
 pub mod Tables
 pub mod Grammar
 pub mod Answers
+pub mod Defaults

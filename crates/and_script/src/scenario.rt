@@ -6,6 +6,8 @@ ghost use Rattle.serde_json.specs.Find.{get, as_array, as_object};
 ghost use Rattle.serde_json.specs.View.{view, items_view};
 ghost use Rattle.and_script.specs.Grammar as grammar;
 ghost use Rattle.and_script.specs.Tables.{top_rows};
+ghost use Rattle.and_planned.specs.Scenarios.{IsScenario};
+ghost use Rattle.and_script.specs.Defaults.{HasDefaults};
 ghost use Rattle.and_script.specs.Answers.{Says, RefusesAt, Tells, TellsOf, IsFault, IsFaultOr, spot_of, TopFault, ItemFault};
 
 use crate::fault::ScenarioFault;
@@ -203,7 +205,7 @@ fn read_script(
 }
 
 /// The scenario that a JSON value is, or the first check that fails.
-pub fn scenario_of(alloc: Global, value: &Value) -> Result<Scenario, ScenarioFault>
+fn scenario_in(alloc: Global, value: &Value) -> Result<Scenario, ScenarioFault>
     ensures found { IfOk result (λ s. grammar.scenario_of (view value.now) ≡ Ok s) }
     ensures refused { IfErr result (λ e. Tells e (grammar.scenario_of (view value.now))) }
 {
@@ -214,9 +216,23 @@ pub fn scenario_of(alloc: Global, value: &Value) -> Result<Scenario, ScenarioFau
     read_script(alloc, settings_by(values.as_slice()), script_of(value))
 }
 
-/// Reads a scenario: a JSON text whose fields and items are those of the tables. The first check that fails is answered with its path.
+/// The scenario that a JSON value is, or the first check that fails. A plan can be made of it; settings that it leaves out
+/// have their defaults.
+pub fn scenario_of(alloc: Global, value: &Value) -> Result<Scenario, ScenarioFault>
+    ensures found { IfOk result (λ s. grammar.scenario_of (view value.now) ≡ Ok s) }
+    ensures fits { IfOk result (λ s. IsScenario s) }
+    ensures defaults { IfOk result (λ s. HasDefaults (view value.now) s.settings) }
+    ensures refused { IfErr result (λ e. Tells e (grammar.scenario_of (view value.now))) }
+{
+    scenario_in(alloc, value)
+}
+
+/// Reads a scenario: a JSON text whose fields and items are those of the tables. The first check that fails is answered with its
+/// path. A plan can be made of what is read: its numbers are in their ranges, it names at most 65,536 VMs, each VM's number is
+/// that of a name, and no item places a VM.
 pub fn read_scenario(alloc: Global, bytes: &[u8]) -> Result<Scenario, ScenarioFault>
     ensures found { IfOk result (λ s. (d : Data) × grammar.IsJson bytes.now d × (grammar.scenario_of d ≡ Ok s)) }
+    ensures fits { IfOk result (λ s. IsScenario s) }
     ensures refused { IfErr result (λ e. TellsOf bytes.now e) }
 {
     let value = read_value(alloc, bytes)?;

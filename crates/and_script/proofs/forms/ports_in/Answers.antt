@@ -1,4 +1,4 @@
-use Rattle.std.proofs.Common.{◌≡◌, length, arith, sym}
+use Rattle.std.proofs.Common.{arith, sym}
 use Rattle.and_script.proofs.PortLists.{ports-other}
 use Rattle.and_script.proofs.forms.ports_in.Goals as goal
 

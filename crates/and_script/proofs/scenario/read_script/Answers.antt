@@ -1,4 +1,4 @@
-use Rattle.std.proofs.Common.{◌≡◌, ℕ, rules, arith, Bool, true, false, nat_lt, length, codes, refl, ap, ap₂, sym, ◌∙◌, subst, Result, Ok, []}
+use Rattle.std.proofs.Common.{◌≡◌, rules, true, false, nat_lt, length, codes, ap, ap₂, sym, ◌∙◌, subst, Result, Ok, []}
 use Rattle.and_events.specs.declared.plan.Scenario.{Scenario}
 use Rattle.and_script.specs.Answers.{Tells}
 use Rattle.serde_json.specs.View.{items_view}

@@ -1,5 +1,4 @@
-use Rattle.std.proofs.Common.{◌≡◌, ◌≤◌, ◌<◌, length, ◌+◌, ◌++◌, ◌∷◌, [], ℕ, rules, arith, option_map, refl, ap, ap₂, sym, ◌∙◌, List}
-use Rattle.and_events.specs.declared.plan.Item.{Item}
+use Rattle.std.proofs.Common.{◌≡◌, ◌≤◌, ◌<◌, length, ◌+◌, ◌++◌, ◌∷◌, [], rules, option_map, ap, ◌∙◌}
 use Rattle.and_script.specs.Grammar as grammar
 use Rattle.and_script.specs.Grammar.{Written, number_of}
 use Rattle.and_script.proofs.ItemLists.{after_item}

@@ -1,0 +1,5 @@
+pub mod Walks
+pub mod Frees
+pub mod Items
+pub mod Planned
+pub mod Built

@@ -1,0 +1,10 @@
+pub mod ActorNumbers
+pub mod Indexing
+pub mod PlainLog
+pub mod Installs
+pub mod Adding
+pub mod Decisions
+pub mod DueSteps
+pub mod InHands
+pub mod Unsealed
+pub mod Turning

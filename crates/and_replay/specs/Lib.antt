@@ -1,0 +1,4 @@
+pub mod Slow
+pub mod Indexes
+pub mod Turns
+pub mod Deciding

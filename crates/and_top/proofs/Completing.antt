@@ -1,16 +1,16 @@
--- Where both files are told and accepted and no read failed, only memory or the put of the report can stop a replay.
-use Rattle.std.proofs.Common.{◌≡◌, ◌≤◌, ◌<◌, ℕ, List, length, Some, Result, Ok, Err, IfErr, subst, sym, arith, inl, inr}
+-- Where both files are told and accepted and no read failed, only memory or a write can stop a replay.
+use Rattle.std.proofs.Common.{◌≡◌, ◌≤◌, ◌<◌, ℕ, List, length, Some, Result, Ok, Err, IfErr, subst, sym, refl, arith, ◌⊎◌, inl, inr}
 use Rattle.and_capture.specs.declared.fault.CaptureFault.TheVariants as capture_faults
 use Rattle.and_top.specs.declared.answers.Fault.{Fault}
 use Rattle.and_top.specs.declared.answers.Fault.TheVariants as faults
 use Rattle.and_top.specs.declared.answers.ScenarioFault.TheVariants as scenario_faults
 use Rattle.and_top.specs.declared.answers.Which.TheVariants as which
 use Rattle.and_top.specs.declared.TheConstants.{MAX_SCENARIO_LEN, MAX_CAPTURE_LEN, MOST_HOSTS}
-use Rattle.and_top.specs.Answers.{Answers, PutFails}
+use Rattle.and_top.specs.Answers.{Answers, Done}
 use Rattle.and_top.specs.FirstForm.{IsFirstForm}
 use Rattle.and_top.specs.Inputs.{ScenarioFails, CaptureFails, Refuses, IsFirstCapture}
 use Rattle.and_top.specs.Outside.{Disk, IsQuiet, ReadFailed, WasTooLong}
-use Rattle.and_top.specs.Statuses.{CanComplete, IsLate}
+use Rattle.and_top.specs.Statuses.{CanComplete, IsLate, fault_status}
 use Rattle.and_top.specs.Telling.{Stream}
 use Rattle.and_top.specs.Words.{Named}
 
@@ -39,9 +39,10 @@ capture_late names old new (faults.Capture capture_faults.NotBuilt) can f =
 capture_late names old new faults.NoMemory can f = tt
 capture_late names old new _ can f = absurd f
 
-put_late : (names : Named) (old : Disk) (before after : Stream) (fault : Fault) → PutFails names old before after fault → IsLate fault
-put_late names old before after (faults.Write which.Report) f = tt
-put_late names old before after _ f = absurd f
+done_late : (names : Named) (old new : Disk) (before after : Stream) (fault : Fault) → Done names old new before after (Err fault) → IsLate fault
+done_late names old new before after (faults.Write which.Trace) f = tt
+done_late names old new before after (faults.Write which.Report) f = tt
+done_late names old new before after fault f = absurd f.1
 
 refused_late : (names : Named) (old new : Disk) (fault : Fault) → CanComplete names old new → Refuses names old new fault → IsLate fault
 refused_late names old new fault can (inl f) = scenario_late names old new fault can f
@@ -51,4 +52,19 @@ pub completes : (names : Named) (old new : Disk) (before after : Stream) (result
     → CanComplete names old new → Answers names old new before after result → IfErr result IsLate
 completes names old new before after (Ok done) can a = tt
 completes names old new before after (Err fault) can (inl a) = refused_late names old new fault can a.0
-completes names old new before after (Err fault) can (inr a) = put_late names old before after fault a
+completes names old new before after (Err fault) can (inr a) = done_late names old new before after fault a
+
+-- the status of words that are no command is no fault's
+pub no_usage : (fault : Fault) → fault_status fault ≡ 1 → ⊥
+no_usage (faults.Scenario f) e = cc
+no_usage (faults.Capture f) e = cc
+no_usage (faults.Read file) e = cc
+no_usage (faults.Write file) e = cc
+no_usage (faults.TooLong file) e = cc
+no_usage faults.NoMemory e = cc
+
+pub late_status : (fault : Fault) → IsLate fault → (fault_status fault ≡ 0) ⊎ ((fault_status fault ≡ 5) ⊎ (fault_status fault ≡ 6))
+late_status (faults.Write which.Trace) late = inr (inl refl)
+late_status (faults.Write which.Report) late = inr (inl refl)
+late_status faults.NoMemory late = inr (inr refl)
+late_status fault late = absurd late

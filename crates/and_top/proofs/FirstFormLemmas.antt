@@ -13,7 +13,8 @@ use Rattle.and_events.specs.declared.plan.Item.{Item}
 use Rattle.and_events.specs.declared.plan.Scenario.{Scenario}
 use Rattle.serde_json.specs.Data.{Data}
 use Rattle.and_script.specs.Grammar.{IsJson, scenario_of}
-use Rattle.and_top.specs.FirstForm.{entry_in, entries_of, is_first_item, Misfits, Fit, Meets, IsFirstForm}
+use Rattle.and_planner.specs.FirstItems.{is_first_item}
+use Rattle.and_top.specs.FirstForm.{entry_in, entries_of, Misfits, Fit, Meets, IsFirstForm}
 
 -- an entry that does not fit the entries before it is in no log
 pub misfit : (hosts : ℕ) (done : List Entry) (e : Entry) (rest : List Entry) (fault : EntryFault) →

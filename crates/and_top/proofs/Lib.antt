@@ -1,13 +1,7 @@
 pub mod Bounds
 pub mod Completing
 pub mod Failing
-pub mod FirstPlans
-pub mod Planning
 pub mod PlansLemmas
-pub mod Policing
 pub mod Puts
 pub mod FirstFormLemmas
-pub mod Sourcing
-pub mod Texts
-pub mod Counting
-pub mod AddedVms
+pub mod Headlines

@@ -1,16 +1,13 @@
 -- What the top call answers, and where.
-use Rattle.std.specs.Prelude.{◌≡◌, ◌⊎◌, ℕ, List, Result, Ok, Err, string_bytes}
-use Rattle.and_capture.specs.declared.capture.Capture.{Capture}
-use Rattle.and_events.specs.declared.plan.Scenario.{Scenario}
-use Rattle.and_events.specs.Planned.{planned}
+use Rattle.std.specs.Prelude.{◌≡◌, ◌≢◌, ◌≤◌, ◌⊎◌, ℕ, List, ◌++◌, codes, true, Some, Result, Ok, Err, string_bytes}
+use Rattle.and_outside.specs.Causes.{Rose}
 use Rattle.and_top.specs.declared.answers.Which.TheVariants as which
 use Rattle.and_top.specs.declared.answers.Fault.{Fault}
 use Rattle.and_top.specs.declared.answers.Fault.TheVariants as faults
 use Rattle.and_top.specs.declared.answers.Job.{Job}
-use Rattle.and_top.specs.Direct.{direct_tally}
-use Rattle.and_top.specs.Inputs.{ScenarioAt, CaptureAt, Refuses}
-use Rattle.and_top.specs.Outside.{Disk}
-use Rattle.and_top.specs.Report.{report}
+use Rattle.and_top.specs.Headline.{Ran, trace_in, report_in}
+use Rattle.and_top.specs.Inputs.{Refuses}
+use Rattle.and_top.specs.Outside.{Disk, Holds}
 use Rattle.and_top.specs.Telling.{Stream, Wrote, WrotePart}
 use Rattle.and_top.specs.Words.{Named}
 
@@ -18,22 +15,40 @@ use Rattle.and_top.specs.Words.{Named}
 abbrev pub names_in : Job → Named
 names_in job = record { scenario = string_bytes job.scenario; capture = string_bytes job.capture; out = string_bytes job.out }
 
--- the report of a scenario and a capture
-abbrev pub report_of : Scenario → Capture → List ℕ
-report_of scenario capture = report (planned scenario capture) (direct_tally (planned scenario capture))
+-- the name of the trace's file
+abbrev pub trace_name : Named → List ℕ
+trace_name names = names.out ++ codes ".trace"
 
--- Both files were read, and this is what became of their report.
-abbrev pub Reports : Named → Disk → (List ℕ → Type 0) → Type 0
-Reports names files put = (scenario : Scenario) × (capture : Capture)
-    × ScenarioAt files names.scenario scenario × CaptureAt files names.capture capture × put (report_of scenario capture)
+-- no other file than the trace's was written, and no count of files falls
+pub record Leaves (name : List ℕ) (old new : Disk) : Type 0 where
+  pub others : (other : List ℕ) → other ≢ name → new.content other ≡ old.content other
+  pub calm : old.calm ≡ true → new.calm ≡ true
+  pub write_faults : old.write_faults ≤ new.write_faults
+  pub read_faults : old.read_faults ≤ new.read_faults
+  pub taken : old.taken ≤ new.taken
 
--- The put of the report failed: faults of the sink rose, and a prefix stands there.
-abbrev pub PutFails : Named → Disk → Stream → Stream → Fault → Type 0
-PutFails names files before after (faults.Write which.Report) = Reports names files (λ text. WrotePart text before after)
-PutFails names files before after _ = ⊥
+-- no file was written
+abbrev pub Untouched : Disk → Disk → Type 0
+Untouched old new = (name : List ℕ) → new.content name ≡ old.content name
 
--- The answer of a replay between two states of the files and of the report's sink. At any fault but that of the put, nothing was put.
+-- the text is the content of the file of this name, where that is told; where it was told before, it is told now
+pub record Stands (name : List ℕ) (old new : Disk) (text : List ℕ) : Type 0 where
+  pub held : Holds new name text
+  pub told : (before : List ℕ) → old.content name ≡ Some before → new.content name ≡ Some text
+
+-- The trace was written, and then the report was put. Where the write failed, faults of the files rose, nothing is known of the trace's file, and
+-- nothing was put. Where the put failed, faults of the sink rose: the trace stands, and a prefix of the report
+abbrev pub Writes : List ℕ → Disk → Disk → Stream → Stream → List ℕ → List ℕ → Result (Unit {0}) Fault → Type 0
+Writes name old new before after trace report (Ok done) = Stands name old new trace × Wrote report before after
+Writes name old new before after trace report (Err (faults.Write which.Trace)) = Rose old.write_faults new.write_faults × (after ≡ before)
+Writes name old new before after trace report (Err (faults.Write which.Report)) = Stands name old new trace × WrotePart report before after
+Writes name old new before after trace report (Err _) = ⊥
+
+-- The answer of a replay between two states of the files and of the report's sink. Where it is no fault of a write, nothing was written or put
+abbrev pub Done : Named → Disk → Disk → Stream → Stream → Result (Unit {0}) Fault → Type 0
+Done names old new before after result = (ran : Ran names old) × Writes (trace_name names) old new before after (trace_in names old ran) (report_in names old ran) result
+
 abbrev pub Answers : Named → Disk → Disk → Stream → Stream → Result (Unit {0}) Fault → Type 0
-Answers names old new before after (Ok done) = Reports names old (λ text. Wrote text before after)
+Answers names old new before after (Ok done) = Done names old new before after (Ok done)
 Answers names old new before after (Err fault) =
-    (Refuses names old new fault × (after ≡ before)) ⊎ PutFails names old before after fault
+    (Refuses names old new fault × Untouched old new × (after ≡ before)) ⊎ Done names old new before after (Err fault)

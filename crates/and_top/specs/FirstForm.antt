@@ -1,13 +1,13 @@
 -- The scenarios that the program takes so far.
-use Rattle.std.specs.Prelude.{◌≡◌, ℕ, ◌≤◌, not, Bool, true, false, List, [], ◌∷◌, Option, Some, None, Ok, codes, option_to_list}
+use Rattle.std.specs.Prelude.{◌≡◌, ℕ, ◌≤◌, List, [], ◌∷◌, Option, Some, None, Ok, codes, option_to_list}
 use Rattle.std.specs.List.{AllPass, filter_map}
 use Rattle.and_policy.specs.declared.entry.Entry.{Entry}
-use Rattle.and_policy.specs.declared.entry.Entry.TheVariants as entries
 use Rattle.and_policy.specs.declared.entry.EntryFault.{EntryFault}
 use Rattle.and_policy.specs.Fitting.{IsLog, fits}
 use Rattle.and_events.specs.declared.plan.Item.{Item}
 use Rattle.and_events.specs.declared.plan.Item.TheVariants as items
 use Rattle.and_events.specs.declared.plan.Scenario.{Scenario}
+use Rattle.and_planner.specs.FirstItems.{is_first_item}
 use Rattle.serde_json.specs.Data.{Data, Members}
 use Rattle.serde_json.specs.Find.{as_object}
 use Rattle.and_script.specs.Grammar.{IsJson, scenario_of, first_unknown}
@@ -20,15 +20,6 @@ first_names = codes "gateways" ∷ codes "hosts" ∷ codes "script" ∷ []
 abbrev pub unknown_top : Option Members → Option (List ℕ)
 unknown_top None = None
 unknown_top (Some fields) = first_unknown first_names fields
-
--- networks, VMs and rules that seal nothing, sends and waits
-abbrev pub is_first_item : Item → Bool
-is_first_item (items.Entry (entries.AddNet net)) = true
-is_first_item (items.Entry (entries.AddVm vm net mac ip host)) = true
-is_first_item (items.Entry (entries.AddRule net rule)) = not rule.sealed
-is_first_item items.Wait = true
-is_first_item (items.Send frames) = true
-is_first_item _ = false
 
 abbrev pub entry_in : Item → Option Entry
 entry_in (items.Entry e) = Some e

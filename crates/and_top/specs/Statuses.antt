@@ -74,8 +74,9 @@ pub record CanComplete (names : Named) (old new : Disk) : Type 0 where
   pub is_capture : IsFirstCapture file capture
   pub quiet : IsQuiet old new
 
--- want of memory, or the put of the report failed
+-- want of memory, or a write failed
 abbrev pub IsLate : Fault → Type 0
 IsLate faults.NoMemory = Unit {0}
+IsLate (faults.Write which.Trace) = Unit {0}
 IsLate (faults.Write which.Report) = Unit {0}
 IsLate _ = ⊥

@@ -1,6 +1,7 @@
 //! What the top call is asked for, and how it can fail.
 
 use and_capture::CaptureFault;
+use and_replay::Turns;
 
 /// Why bytes were not read as a scenario.
 #[derive(Debug, Clone, Copy, PartialEq, Eq)]
@@ -43,13 +44,6 @@ pub enum Fault {
     TooLong(Which),
     /// Memory ran out, wherever that was.
     NoMemory,
-}
-
-/// In which order the actors take their turns.
-#[derive(Debug, Clone, Copy, PartialEq, Eq)]
-pub enum Turns {
-    /// The enabled actor with the smallest number acts.
-    Plain,
 }
 
 /// What to replay.

@@ -1,18 +1,19 @@
 //! The program's command line: words, a status and a line for the user.
 ghost use Rattle.std.specs.Prelude.{◌≡◌, ◌↔◌, ◌⊎◌, ◌++◌, ◌∷◌, [], ℕ, List, map, Some, None, IfOk, IfErr, string_bytes};
-ghost use Rattle.and_top.specs.Outside.{disk, Stays};
+ghost use Rattle.and_top.specs.Outside.{disk};
 ghost use Rattle.and_top.specs.Telling.{stream, Tells};
 ghost use Rattle.and_top.specs.Pieces.{text_of};
 ghost use Rattle.and_top.specs.Words.{Named, command_of};
 ghost use Rattle.and_top.specs.Names.{named};
-ghost use Rattle.and_top.specs.Answers.{Answers, names_in};
+ghost use Rattle.and_top.specs.Answers.{Answers, Leaves, names_in, trace_name};
 ghost use Rattle.and_top.specs.Statuses.{Replayed, CanComplete, IsLate, fault_status, fault_line, file_name, usage_text};
 
-use crate::answers::{Fault, Job, Turns, Which};
+use crate::answers::{Fault, Job, Which};
 use crate::line::{Line, tell};
 use crate::replaying::replay;
 use crate::words::{Names, names_of};
 use and_outside::{Files, Sink};
+use and_replay::Turns;
 use std::alloc::{AllocError, Global};
 
 /// The status of words that are no command.
@@ -37,7 +38,7 @@ fn run<F: Files, O: Sink>(
     files: &mut F,
     out: &mut O,
 ) -> Result<(), Fault>
-    ensures stays { Stays (disk F.read_faults F.write_faults F.taken F.calm F.content files.old) (disk F.read_faults F.write_faults F.taken F.calm F.content files.new) }
+    ensures leaves { Leaves (trace_name (named names.now)) (disk F.read_faults F.write_faults F.taken F.calm F.content files.old) (disk F.read_faults F.write_faults F.taken F.calm F.content files.new) }
     ensures answer { Answers (named names.now) (disk F.read_faults F.write_faults F.taken F.calm F.content files.old) (disk F.read_faults F.write_faults F.taken F.calm F.content files.new)
         (stream O.faults O.written out.old) (stream O.faults O.written out.new) result }
     ensures complete { CanComplete (named names.now) (disk F.read_faults F.write_faults F.taken F.calm F.content files.old) (disk F.read_faults F.write_faults F.taken F.calm F.content files.new)
@@ -112,7 +113,8 @@ pub fn andromeda<F: Files, O: Sink, E: Sink>(
     out: &mut O,
     err: &mut E,
 ) -> u8
-    ensures stays { Stays (disk F.read_faults F.write_faults F.taken F.calm F.content files.old) (disk F.read_faults F.write_faults F.taken F.calm F.content files.new) }
+    ensures leaves { (names : Named) → command_of (map string_bytes words.now) ≡ Some names
+        → Leaves (trace_name names) (disk F.read_faults F.write_faults F.taken F.calm F.content files.old) (disk F.read_faults F.write_faults F.taken F.calm F.content files.new) }
     ensures usage { (result ≡ 1) ↔ (command_of (map string_bytes words.now) ≡ None) }
     ensures no_command { command_of (map string_bytes words.now) ≡ None → (files.new ≡ files.old) × (out.new ≡ out.old)
         × Tells usage_text (stream E.faults E.written err.old) (stream E.faults E.written err.new) }

@@ -1,13 +1,17 @@
 //! Scenarios of the first form: networks, VMs, rules, sends and waits on one gateway, with no other settings than the number of hosts.
-ghost use Rattle.std.specs.Prelude.{◌≡◌, ◌++◌, true, Some, None, IfOk, IfErr, OnOk, option_map, bytes_eq, false};
+ghost use Rattle.std.specs.Prelude.{◌≡◌, ◌++◌, true, Some, None, Ok, IfOk, IfErr, OnOk, option_map, bytes_eq, false};
 ghost use Rattle.std.specs.List.{list_all, list_any, filter_map};
 ghost use Rattle.serde_json.specs.View.{view};
 ghost use Rattle.serde_json.specs.Find.{as_object};
 ghost use Rattle.and_policy.specs.LogView.{is_first};
-ghost use Rattle.and_top.specs.FirstForm.{IsFirstForm, Meets, Fit, Misfits, is_first_item, entry_in, entries_of, unknown_top, first_names};
+ghost use Rattle.and_script.specs.Grammar as grammar;
+ghost use Rattle.and_script.specs.Answers.{Tells};
+ghost use Rattle.and_planner.specs.FirstItems.{is_first_item};
+ghost use Rattle.and_top.specs.FirstForm.{IsFirstForm, Meets, Fit, Misfits, entry_in, entries_of, unknown_top, first_names};
 
 use crate::answers::ScenarioFault;
 use and_events::{Item, Scenario};
+use and_planner::is_first_item;
 use and_policy::{Entry, Log};
 use and_script::{read_value, scenario_of};
 use serde_json::Value;
@@ -38,18 +42,6 @@ fn is_first_entry(entry: &Entry) -> bool
 {
     match entry {
         Entry::AddNet { .. } | Entry::AddVm { .. } | Entry::AddRule { .. } => true,
-        _ => false,
-    }
-}
-
-/// Whether the program takes the item so far.
-fn is_first(item: &Item) -> bool
-    ensures { result ≡ is_first_item item.now }
-{
-    match *item {
-        Item::Entry(Entry::AddNet { .. }) | Item::Entry(Entry::AddVm { .. }) => true,
-        Item::Entry(Entry::AddRule { rule, .. }) => !rule.sealed,
-        Item::Wait | Item::Send { .. } => true,
         _ => false,
     }
 }
@@ -87,7 +79,7 @@ fn items_fit(alloc: Global, hosts: u32, items: &[Item]) -> Result<bool, Scenario
         return Err(ScenarioFault::NoMemory);
     };
     for item in items {
-        if !is_first(item) {
+        if !is_first_item(item) {
             return Ok(false);
         }
         if !add_item(alloc, &mut log, item)? {
@@ -121,6 +113,14 @@ fn is_first_form(
     items_fit(alloc, scenario.settings.hosts, scenario.items.as_slice())
 }
 
+/// The scenario of a JSON value.
+fn scenario_in(alloc: Global, value: &Value) -> Result<Scenario, and_script::ScenarioFault>
+    ensures found { IfOk result (λ s. grammar.scenario_of (view value.now) ≡ Ok s) }
+    ensures refused { IfErr result (λ e. Tells e (grammar.scenario_of (view value.now))) }
+{
+    scenario_of(alloc, value)
+}
+
 /// Reads a scenario of the first form with at most so many hosts; all else is refused.
 pub(crate) fn read_first_form(
     alloc: Global,
@@ -135,7 +135,7 @@ pub(crate) fn read_first_form(
         Err(and_script::ScenarioFault::NoMemory) => return Err(ScenarioFault::NoMemory),
         Err(_) => return Err(ScenarioFault::NotBuilt),
     };
-    let scenario = match scenario_of(alloc, &value) {
+    let scenario = match scenario_in(alloc, &value) {
         Ok(scenario) => scenario,
         Err(and_script::ScenarioFault::NoMemory) => return Err(ScenarioFault::NoMemory),
         Err(_) => return Err(ScenarioFault::NotBuilt),

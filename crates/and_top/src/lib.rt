@@ -1,30 +1,24 @@
-//! The top call: from command words, a scenario and a capture to the report.
+//! The top call: from command words, a scenario and a capture to the trace and the report.
+//!
+//! [`andromeda`] does what the words of a command line say. Its clause is the promise of the program: what the trace's file
+//! holds after a replay is the trace of a run of the plan to its end, in which each packet has exactly one fate, for its reason.
+//! It stands on the crates of each part: the reading of scenarios and captures, the run, and the two texts.
 #![tactic(auto)]
 
 mod answers;
 mod captures;
 mod commands;
-mod counts;
-mod direct;
-mod directs;
-mod drops;
-mod fate;
 mod first_form;
 mod inputs;
 mod line;
-mod lists;
-mod plan;
-mod planner;
-mod policy;
 mod replaying;
-mod rows;
-mod skips;
 #[cfg(test)]
 mod tests;
+mod texts;
 mod words;
-mod written;
 
-pub use answers::{Fault, Job, ScenarioFault, Turns, Which};
+pub use and_replay::Turns;
+pub use answers::{Fault, Job, ScenarioFault, Which};
 pub use commands::andromeda;
 pub use replaying::replay;
 
@@ -35,4 +29,4 @@ pub const MAX_SCENARIO_LEN: u64 = 16_777_216;
 pub const MAX_CAPTURE_LEN: u64 = 33_554_432;
 
 /// The most hosts of a scenario, so far.
-const MOST_HOSTS: u32 = 1;
+const MOST_HOSTS: u32 = 64;

@@ -1,29 +1,67 @@
 //! The replay of a scenario and the frames of a capture.
-ghost use Rattle.std.specs.Prelude.{◌≡◌, IfOk, IfErr};
-ghost use Rattle.and_top.specs.Plans.{CanPlan};
+ghost use Rattle.std.specs.Prelude.{◌≡◌, ◌++◌, List, ℕ, IfOk, IfErr, string_bytes, codes};
 ghost use Rattle.and_top.specs.Outside.{disk, Stays};
+ghost use Rattle.and_top.specs.Inputs.{ScenarioAt, CaptureAt, Refuses};
+ghost use Rattle.and_planner.specs.Plans.{CanPlan};
 ghost use Rattle.and_top.specs.Telling.{stream};
 ghost use Rattle.and_top.specs.Statuses.{CanComplete, IsLate};
-ghost use Rattle.and_top.specs.Answers.{Answers, names_in, report_of};
+ghost use Rattle.and_top.specs.Answers.{Answers, Leaves, Writes, names_in, trace_name};
 
 use crate::answers::{Fault, Job, Which};
-use crate::direct::direct_report;
 use crate::inputs::{capture_in, scenario_in};
-use crate::plan::plan;
+use crate::texts::{Texts, texts_of};
 use and_capture::Capture;
 use and_events::Scenario;
 use and_outside::{Files, Sink};
-use and_policy::NoMemory;
 use std::alloc::Global;
 
-/// The text of the report.
-#[tactic(auto, using(crate::proofs::FirstPlans::first_plan))]
-fn report_text(alloc: Global, scenario: Scenario, capture: Capture) -> Result<Vec<u8>, NoMemory>
-    requires { CanPlan scenario capture }
-    ensures { IfOk result (λ text. text.items ≡ report_of scenario capture) }
+/// The scenario and the capture of the job's files, the scenario first.
+fn read_both<F: Files>(
+    alloc: Global,
+    job: &Job,
+    files: &mut F,
+) -> Result<(Scenario, Capture), Fault>
+    ensures stays { Stays (disk F.read_faults F.write_faults F.taken F.calm F.content files.old) (disk F.read_faults F.write_faults F.taken F.calm F.content files.new) }
+    ensures scenario { IfOk result (λ r. ScenarioAt (disk F.read_faults F.write_faults F.taken F.calm F.content files.old) (names_in job.now).scenario r.0) }
+    ensures capture { IfOk result (λ r. CaptureAt (disk F.read_faults F.write_faults F.taken F.calm F.content files.old) (names_in job.now).capture r.1) }
+    ensures refused { IfErr result (λ e. Refuses (names_in job.now) (disk F.read_faults F.write_faults F.taken F.calm F.content files.old) (disk F.read_faults F.write_faults F.taken F.calm F.content files.new) e) }
 {
-    let plan = plan(alloc, scenario, capture)?;
-    direct_report(alloc, &plan)
+    let scenario = scenario_in(alloc, job.scenario.as_str(), files)?;
+    let capture = capture_in(alloc, job.capture.as_str(), files)?;
+    Ok((scenario, capture))
+}
+
+/// The name of the trace's file.
+fn trace_file(alloc: Global, job: &Job) -> Result<String, Fault>
+    ensures name { IfOk result (λ name. string_bytes name ≡ trace_name (names_in job.now)) }
+    ensures memory { IfErr result (λ e. e ≡ Fault.NoMemory) }
+{
+    let out = &job.out;
+    match format!(in alloc; "{out}.trace") {
+        Ok(name) => Ok(name),
+        Err(_) => Err(Fault::NoMemory),
+    }
+}
+
+/// Writes the trace, and then puts the report.
+fn write_texts<F: Files, O: Sink>(
+    name: &str,
+    texts: &Texts,
+    files: &mut F,
+    out: &mut O,
+) -> Result<(), Fault>
+    ensures leaves { Leaves name.now (disk F.read_faults F.write_faults F.taken F.calm F.content files.old) (disk F.read_faults F.write_faults F.taken F.calm F.content files.new) }
+    ensures read_faults { F.read_faults files.new ≡ F.read_faults files.old }
+    ensures writes { Writes name.now (disk F.read_faults F.write_faults F.taken F.calm F.content files.old) (disk F.read_faults F.write_faults F.taken F.calm F.content files.new)
+        (stream O.faults O.written out.old) (stream O.faults O.written out.new) texts.now.trace.items texts.now.report.items result }
+{
+    if files.write(name, &texts.trace).is_err() {
+        return Err(Fault::Write(Which::Trace));
+    }
+    match out.put(&texts.report) {
+        Ok(()) => Ok(()),
+        Err(_) => Err(Fault::Write(Which::Report)),
+    }
 }
 
 /// The work of a replay, up to its first failure.
@@ -33,33 +71,33 @@ fn work<F: Files, O: Sink>(
     files: &mut F,
     out: &mut O,
 ) -> Result<(), Fault>
-    ensures stays { Stays (disk F.read_faults F.write_faults F.taken F.calm F.content files.old) (disk F.read_faults F.write_faults F.taken F.calm F.content files.new) }
+    ensures leaves { Leaves (trace_name (names_in job.now)) (disk F.read_faults F.write_faults F.taken F.calm F.content files.old) (disk F.read_faults F.write_faults F.taken F.calm F.content files.new) }
     ensures answer { Answers (names_in job.now) (disk F.read_faults F.write_faults F.taken F.calm F.content files.old) (disk F.read_faults F.write_faults F.taken F.calm F.content files.new)
         (stream O.faults O.written out.old) (stream O.faults O.written out.new) result }
 {
-    let scenario = scenario_in(alloc, job.scenario.as_str(), files)?;
-    let capture = capture_in(alloc, job.capture.as_str(), files)?;
-    let Ok(report) = report_text(alloc, scenario, capture) else {
+    let (scenario, capture) = read_both(alloc, job, files)?;
+    let name = trace_file(alloc, job)?;
+    let Ok(texts) = texts_of(alloc, scenario, capture, job.turns) else {
         return Err(Fault::NoMemory);
     };
-    match out.put(&report) {
-        Ok(()) => Ok(()),
-        Err(_) => Err(Fault::Write(Which::Report)),
-    }
+    write_texts(name.as_str(), &texts, files, out)
 }
 
-/// Replays the job's scenario over the frames of its capture and puts the report into the sink. The
-/// first failure in that order is answered, and no file is written.
+/// Replays the job's scenario over the frames of its capture: writes the trace of the run into the file `OUT.trace`, and
+/// then puts the report into the sink. The first failure in that order is answered, and no file is written before both texts stand.
+///
+/// Each packet of the plan has exactly one fate in the history that the trace spells, for its reason, and by decisions no older
+/// than what was installed when it was taken: that is what [`Ok`] and the faults of the writes say.
 ///
 /// Where both files are told, within their limits and accepted, and no read can have failed, it
-/// answers `Ok`, or that memory ran out or that the put of the report failed.
+/// answers `Ok`, or that memory ran out or that a write failed.
 pub fn replay<F: Files, O: Sink>(
     alloc: Global,
     job: &Job,
     files: &mut F,
     out: &mut O,
 ) -> Result<(), Fault>
-    ensures stays { Stays (disk F.read_faults F.write_faults F.taken F.calm F.content files.old) (disk F.read_faults F.write_faults F.taken F.calm F.content files.new) }
+    ensures leaves { Leaves (trace_name (names_in job.now)) (disk F.read_faults F.write_faults F.taken F.calm F.content files.old) (disk F.read_faults F.write_faults F.taken F.calm F.content files.new) }
     ensures answer { Answers (names_in job.now) (disk F.read_faults F.write_faults F.taken F.calm F.content files.old) (disk F.read_faults F.write_faults F.taken F.calm F.content files.new)
         (stream O.faults O.written out.old) (stream O.faults O.written out.new) result }
     ensures complete { CanComplete (names_in job.now) (disk F.read_faults F.write_faults F.taken F.calm F.content files.old) (disk F.read_faults F.write_faults F.taken F.calm F.content files.new)

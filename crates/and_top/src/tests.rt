@@ -1,10 +1,7 @@
-//! The program's rows: words, statuses, lines and reports.
+//! The program's rows: words, statuses, lines, traces and reports.
 
 use crate::andromeda;
-use crate::fate::Fate;
-use crate::policy::Policy;
-use and_outside::{MemoryFiles, MemorySink};
-use and_policy::{Entry, Exit, Landing, Name, Prefix, Rule, Side, Tuple, plain};
+use and_outside::{Files, MemoryFiles, MemorySink};
 use std::alloc::{AllocError, Global};
 use std::test::Fail;
 
@@ -40,6 +37,52 @@ const NO_OWNER: &str = "andromeda report 1\nframes 1\nskipped 0\nunsent 0\ninjec
     delivered 0\ndropped 1\nlost blackout 0\nlost queue 0\nlost hops 0\nsends 1\noffload 0\nhover 1\n\
     hairpin 0\nredirect 0\nfast 0\nslow 1\norders 0\nrefused 0\ndrop noowner 1\n\
     vm a sent 1 received 0\nvm b sent 0 received 0\n";
+
+/// The same VMs on two hosts, and nothing sent.
+const TWO_HOSTS: &str = r#"{"hosts":2,"gateways":1,"script":[{"do":"add_net","net":7},
+{"do":"add_vm","vm":"a","net":7,"mac":"02:00:00:00:00:01","ip":"10.0.0.1","host":0},
+{"do":"add_vm","vm":"b","net":7,"mac":"02:00:00:00:00:02","ip":"10.0.0.2","host":1},
+{"do":"add_rule","net":7,"number":1,"priority":100,"side":"ingress","action":"allow",
+"protocol":"tcp","destination_ports":[80,80]},{"do":"wait"}]}"#;
+
+/// Those, and all frames sent.
+const TWO_HOSTS_SEND: &str = r#"{"hosts":2,"gateways":1,"script":[{"do":"add_net","net":7},
+{"do":"add_vm","vm":"a","net":7,"mac":"02:00:00:00:00:01","ip":"10.0.0.1","host":0},
+{"do":"add_vm","vm":"b","net":7,"mac":"02:00:00:00:00:02","ip":"10.0.0.2","host":1},
+{"do":"add_rule","net":7,"number":1,"priority":100,"side":"ingress","action":"allow",
+"protocol":"tcp","destination_ports":[80,80]},{"do":"wait"},{"do":"send"}]}"#;
+
+/// What the four entries and the wait write on two hosts and one gateway.
+const ENTRIES: &str = "andromeda trace 1\n\
+    append 0\nannounce h0 1\ninstalled h0 1\nannounce h1 1\ninstalled h1 1\nannounce g0 1\ninstalled g0 1\n\
+    append 1\nannounce h0 2\ninstalled h0 2\nannounce h1 2\ninstalled h1 2\nannounce g0 2\ninstalled g0 2\n\
+    append 2\nannounce h0 3\ninstalled h0 3\nannounce h1 3\ninstalled h1 3\nannounce g0 3\ninstalled g0 3\n\
+    append 3\nannounce h0 4\ninstalled h0 4\nannounce h1 4\ninstalled h1 4\nannounce g0 4\ninstalled g0 4\n\
+    wait 4\n";
+
+/// What follows where one packet takes the whole way and is delivered.
+const WHOLE_PATH: &str = "inject 5 0 queued\ntake h0.w0 out 0\n\
+    egress h0.w0 0 4 slow allow implied plain hover g0 queued\ntake g0.w wire 0\n\
+    route g0.w 0 4 implied send h1 7 queued\ntake h1.w0 wire 0\n\
+    ingress h1.w0 0 4 slow vm 1 running rule 1 deliver\nfinish 6\n";
+
+/// The same where no ingress rule matches.
+const DEFAULT: &str = "inject 5 0 queued\ntake h0.w0 out 0\n\
+    egress h0.w0 0 4 slow allow implied plain hover g0 queued\ntake g0.w wire 0\n\
+    route g0.w 0 4 implied send h1 7 queued\ntake h1.w0 wire 0\n\
+    ingress h1.w0 0 4 slow vm 1 running implied drop\nfinish 6\n";
+
+/// A capture of no frame.
+const NO_FRAMES: [u8; 24] = [
+    0xd4, 0xc3, 0xb2, 0xa1, 0x02, 0x00, 0x04, 0x00, 0x00, 0x00, 0x00, 0x00, 0x00, 0x00, 0x00, 0x00,
+    0x00, 0x00, 0x04, 0x00, 0x01, 0x00, 0x00, 0x00,
+];
+
+/// The report of no frame.
+const NOTHING: &str = "andromeda report 1\nframes 0\nskipped 0\nunsent 0\ninjected 0\n\
+    delivered 0\ndropped 0\nlost blackout 0\nlost queue 0\nlost hops 0\nsends 0\noffload 0\nhover 0\n\
+    hairpin 0\nredirect 0\nfast 0\nslow 0\norders 0\nrefused 0\n\
+    vm a sent 0 received 0\nvm b sent 0 received 0\n";
 
 const USAGE: &str = "usage: andromeda replay SCENARIO CAPTURE OUT\n";
 
@@ -77,7 +120,7 @@ fn run(
 /// Replays the scenario over a capture. The calls of the files and the puts of `out` with these
 /// numbers fail.
 fn replayed(alloc: Global, capture: &[u8], failing: &[u32], puts: &[u32]) -> Result<Ran, Fail> {
-    let mut files = MemoryFiles::make(alloc, 2, 100_000, failing)?;
+    let mut files = MemoryFiles::make(alloc, 3, 100_000, failing)?;
     files.hold("s.json", SCENARIO.as_bytes());
     if capture.len() < 1_000 {
         files.hold("c.pcap", capture);
@@ -145,6 +188,82 @@ fn reports(rt: HostRuntime) -> Result<(), Fail> {
     Ok(())
 }
 
+/// What a replay of a scenario over a capture left: its status, its trace, and its report.
+#[derive(Drop)]
+struct Left {
+    status: u8,
+    trace: Vec<u8>,
+    out: MemorySink,
+}
+
+/// Replays the scenario over the capture, and reads the trace.
+fn traced(alloc: Global, scenario: &str, capture: &[u8]) -> Result<Left, Fail> {
+    let mut files = MemoryFiles::make(alloc, 3, 100_000, &[])?;
+    if scenario.len() < 1_000 && capture.len() < 1_000 {
+        files.hold("s.json", scenario.as_bytes());
+        files.hold("c.pcap", capture);
+    }
+    let ran = run(
+        alloc,
+        &["replay", "s.json", "c.pcap", "x"],
+        &mut files,
+        &[],
+        &[],
+    )?;
+    let trace = files
+        .read(alloc, "x.trace", 100_000)
+        .ok()
+        .ok_or("the trace is there")?;
+    Ok(Left {
+        status: ran.status,
+        trace,
+        out: ran.out,
+    })
+}
+
+/// Whether the text is these two, one after the other.
+fn is_both(text: &[u8], first: &str, second: &str) -> bool {
+    text.strip_prefix(first.as_bytes()) == Some(second.as_bytes())
+}
+
+#[test]
+fn traces(rt: HostRuntime) -> Result<(), Fail> {
+    let empty = traced(rt.alloc(), TWO_HOSTS, &NO_FRAMES)?;
+    assert_eq!(rt; empty.status, 0);
+    assert!(rt; is_both(&empty.trace, ENTRIES, "finish 5\n"), "no frame");
+    assert_eq!(rt; empty.out.bytes(), NOTHING.as_bytes());
+    let mut denied = CAPTURE;
+    denied[77] = 81;
+    let rows = [(CAPTURE, WHOLE_PATH, DELIVERED), (denied, DEFAULT, DENIED)];
+    for (capture, rest, report) in rows {
+        let ran = traced(rt.alloc(), TWO_HOSTS_SEND, &capture)?;
+        assert_eq!(rt; ran.status, 0);
+        assert!(rt; is_both(&ran.trace, ENTRIES, rest), "one frame");
+        assert_eq!(rt; ran.out.bytes(), report.as_bytes());
+    }
+    Ok(())
+}
+
+#[test]
+fn writes_that_fail(rt: HostRuntime) -> Result<(), Fail> {
+    let third = replayed(rt.alloc(), &CAPTURE, &[2], &[])?;
+    assert_eq!(rt; third.status, 5);
+    assert_eq!(rt; third.err.bytes(), b"write failed: x.trace\n".as_slice());
+    assert_eq!(rt; third.out.bytes(), b"".as_slice());
+    let mut files = MemoryFiles::make(rt.alloc(), 3, 100_000, &[])?;
+    files.hold("s.json", SCENARIO.as_bytes());
+    files.hold("c.pcap", CAPTURE.as_slice());
+    let words = ["replay", "s.json", "c.pcap", "x"];
+    let put = run(rt.alloc(), &words, &mut files, &[0], &[])?;
+    assert_eq!(rt; put.status, 5);
+    let trace = files
+        .read(rt.alloc(), "x.trace", 100_000)
+        .ok()
+        .ok_or("the trace is there")?;
+    assert!(rt; trace.ends_with(b"deliver\nfinish 6\n"), "the trace stands");
+    Ok(())
+}
+
 #[test]
 fn faults(rt: HostRuntime) -> Result<(), Fail> {
     let cut = replayed(rt.alloc(), &CAPTURE[..30], &[], &[])?;
@@ -160,129 +279,5 @@ fn faults(rt: HostRuntime) -> Result<(), Fail> {
     assert_eq!(rt; put.status, 5);
     assert_eq!(rt; put.err.bytes(), b"write failed: output\n".as_slice());
     assert_eq!(rt; put.out.bytes(), b"".as_slice());
-    Ok(())
-}
-
-/// The next number of a small generator (a linear congruence), and what it gives below `n`; 0 where
-/// `n` is 0.
-fn draw(state: &mut u64, n: u64) -> u64 {
-    *state = state
-        .wrapping_mul(6364136223846793005)
-        .wrapping_add(1442695040888963407);
-    (*state >> 33).checked_rem(n).unwrap_or(0)
-}
-
-/// Some entry of two networks, four VMs and a few rules.
-fn some_entry(state: &mut u64) -> Entry {
-    let net = 1 + (draw(state, 2) % 2) as u32;
-    let small = (draw(state, 4) % 4) as u32;
-    let kind = draw(state, 5);
-    if kind == 0 {
-        return Entry::AddNet { net };
-    }
-    if kind < 3 {
-        return Entry::AddVm {
-            vm: small,
-            net,
-            mac: 1,
-            ip: (draw(state, 3) % 3) as u32,
-            host: 0,
-        };
-    }
-    let everywhere = Prefix {
-        address: 0,
-        length: 0,
-    };
-    let side = if draw(state, 2) == 0 {
-        Side::Egress
-    } else {
-        Side::Ingress
-    };
-    let protocol = if draw(state, 2) == 0 { None } else { Some(6) };
-    let low = if draw(state, 2) == 0 { 0 } else { 80 };
-    Entry::AddRule {
-        net,
-        rule: Rule {
-            number: small,
-            priority: (draw(state, 2) % 2) as u16,
-            side,
-            allow: draw(state, 2) == 0,
-            sealed: false,
-            protocol,
-            source: everywhere,
-            destination: everywhere,
-            source_low: 0,
-            source_high: 65535,
-            destination_low: low,
-            destination_high: 90,
-        },
-    }
-}
-
-fn some_tuple(state: &mut u64) -> Tuple {
-    Tuple {
-        protocol: if draw(state, 2) == 0 { 6 } else { 17 },
-        source: (draw(state, 3) % 3) as u32,
-        destination: (draw(state, 3) % 3) as u32,
-        source_port: 1,
-        destination_port: if draw(state, 2) == 0 { 70 } else { 85 },
-    }
-}
-
-/// The network of the first entry that adds the VM; 0 where there is none.
-fn net_of(log: &[Entry], vm: u32) -> u32 {
-    for entry in log {
-        if let Entry::AddVm { vm: v, net, .. } = *entry {
-            if v == vm {
-                return net;
-            }
-        }
-    }
-    0
-}
-
-/// The fate by the plain program of the policy, which goes through all entries.
-fn plain_fate(log: &[Entry], vm: u32, tuple: &Tuple) -> Fate {
-    let net = net_of(log, vm);
-    match plain::egress(log, vm, tuple) {
-        Exit::NoVm => Fate::NoVm,
-        Exit::Spoofed => Fate::Spoofed,
-        Exit::Denied { number } => Fate::EgressDenied { net, number },
-        Exit::Allowed { .. } => match plain::landing(log, net, tuple) {
-            Landing::NoOwner => Fate::NoOwner,
-            Landing::Owned { vm, pass: true, .. } => Fate::Delivered { vm },
-            Landing::Owned {
-                by: Name::Rule(number),
-                ..
-            } => Fate::IngressDenied { net, number },
-            Landing::Owned {
-                by: Name::Implied,
-                ..
-            } => Fate::IngressDenied { net, number: 0 },
-        },
-    }
-}
-
-/// The tables give the fates of the plain program, over three hundred small logs and eight packets each.
-#[test]
-fn generated(rt: HostRuntime) -> Result<(), Fail> {
-    let mut state = 1u64;
-    for _ in 0..300 {
-        let mut policy = Policy::new(rt.alloc());
-        let mut log = Vec::new(rt.alloc());
-        for _ in 0..12 {
-            let entry = some_entry(&mut state);
-            if let Entry::AddNet { .. } | Entry::AddVm { .. } | Entry::AddRule { .. } = entry {
-                policy.append(rt.alloc(), entry)?;
-                log.push(entry)?;
-            }
-        }
-        for _ in 0..8 {
-            let tuple = some_tuple(&mut state);
-            let vm = (draw(&mut state, 4) % 4) as u32;
-            let same = policy.fate(vm, &tuple) == plain_fate(&log, vm, &tuple);
-            assert!(rt; same);
-        }
-    }
     Ok(())
 }

@@ -6,7 +6,8 @@ use Rattle.and_policy.specs.Fitting.{IsLog}
 use Rattle.std.specs.Prelude.{Some}
 use Rattle.and_events.specs.declared.plan.Item.{Item}
 use Rattle.and_events.specs.declared.plan.Item.TheVariants as items
-use Rattle.and_top.specs.FirstForm.{entry_in, entries_of, is_first_item, Misfits}
+use Rattle.and_planner.specs.FirstItems.{is_first_item}
+use Rattle.and_top.specs.FirstForm.{entry_in, entries_of, Misfits}
 use Rattle.and_top.proofs.FirstFormLemmas.{refused_here, go_on, all_fit}
 use Rattle.and_top.proofs.first_form.items_fit.Goals as goal
 

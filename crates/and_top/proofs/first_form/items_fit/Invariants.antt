@@ -1,6 +1,7 @@
 use Rattle.std.proofs.Common.{◌≡◌, ◌++◌, drop}
 use Rattle.std.specs.List.{filter_map, list_all}
-use Rattle.and_top.specs.FirstForm.{entry_in, is_first_item}
+use Rattle.and_planner.specs.FirstItems.{is_first_item}
+use Rattle.and_top.specs.FirstForm.{entry_in}
 use Rattle.and_top.proofs.first_form.items_fit.Given as goal
 
 abbrev pub invariant-loop-item : goal.invariant-loop-item

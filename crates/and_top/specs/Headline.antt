@@ -1,0 +1,51 @@
+-- The replay of a scenario and a capture: the run of their plan, and what is true of each of its packets.
+use Rattle.std.specs.Prelude.{◌≡◌, ℕ, List, ◌++◌}
+use Rattle.and_capture.specs.declared.capture.Capture.{Capture}
+use Rattle.and_events.specs.declared.event.Event.{Event}
+use Rattle.and_events.specs.declared.plan.Plan.{Plan}
+use Rattle.and_events.specs.declared.plan.Scenario.{Scenario}
+use Rattle.and_events.specs.Complete.{IsComplete}
+use Rattle.and_events.specs.Fresh.{Fresh}
+use Rattle.and_events.specs.Just.{Just}
+use Rattle.and_events.specs.Ordered.{IsInPlainOrder}
+use Rattle.and_events.specs.Planned.{planned}
+use Rattle.and_events.specs.Run.{Run}
+use Rattle.and_events.specs.Sound.{IsSound, IsBuilt}
+use Rattle.and_laws.specs.Fates.{HasOneFate, IsAccounted}
+use Rattle.and_replay.specs.Slow.{AreSlow}
+use Rattle.and_report.specs.Report.{report}
+use Rattle.and_trace.specs.Spelling.{trace}
+use Rattle.and_top.specs.Inputs.{ScenarioAt, CaptureAt}
+use Rattle.and_top.specs.Outside.{Disk}
+use Rattle.and_top.specs.Words.{Named}
+
+-- The history, whose newest event is first, is the run of the plan to its end in the plain order. Each packet of the plan has exactly one
+-- fate, for its reason, by decisions no older than what was installed when it was taken; and after each event the packets
+-- injected so far are as many as the fates, the queued and the held together. No decision comes from a flow cache
+pub record IsReplay (plan : Plan) (h : List Event) : Type 0 where
+  pub run : Run plan h
+  pub complete : IsComplete plan h
+  pub ordered : IsInPlainOrder plan h
+  pub fates : HasOneFate plan h
+  pub just : (packet : ℕ) → Just plan h packet
+  pub fresh : (packet : ℕ) → Fresh plan h packet
+  pub accounted : (later earlier : List Event) → h ≡ later ++ earlier → IsAccounted plan earlier
+  pub slow : AreSlow h
+
+-- both files were read when the call began, what they plan is sound and what the program runs so far, and it was run
+pub record Ran (names : Named) (files : Disk) : Type 0 where
+  pub scenario : Scenario
+  pub capture : Capture
+  pub scenario_at : ScenarioAt files names.scenario scenario
+  pub capture_at : CaptureAt files names.capture capture
+  pub sound : IsSound (planned scenario capture)
+  pub built : IsBuilt (planned scenario capture)
+  pub history : List Event
+  pub replays : IsReplay (planned scenario capture) history
+
+-- its trace, and its report
+abbrev pub trace_in : (names : Named) (files : Disk) → Ran names files → List ℕ
+trace_in names files ran = trace ran.history
+
+abbrev pub report_in : (names : Named) (files : Disk) → Ran names files → List ℕ
+report_in names files ran = report (planned ran.scenario ran.capture) ran.history

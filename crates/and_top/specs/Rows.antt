@@ -1,6 +1,0 @@
--- Rows as the code has them.
-use Rattle.and_top.specs.declared.rows.Row as source
-use Rattle.and_top.specs.Report.{Row}
-
-abbrev pub row_view : source.Row → Row
-row_view r = record { name = r.name.now; count = r.count }

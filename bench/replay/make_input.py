@@ -1,5 +1,5 @@
 #!/usr/bin/env python3
-"""Writes a scenario and captures for `run.sh`: 16 networks of 16 rules each (256 in all), 40 VMs, and captures of the frames that are asked for.
+"""Writes a scenario and captures for `run.sh`: 8 hosts, 4 networks of 15 rules each (60 in all), 40 VMs, and captures of the frames that are asked for.
 
 Usage: make_input.py FOLDER FRAMES..
 """
@@ -8,20 +8,20 @@ import os
 import struct
 import sys
 
-NETS, RULES, VMS = 16, 16, 40
+HOSTS, NETS, RULES, VMS = 8, 4, 15, 40
 
 
 def scenario():
     script = [{"do": "add_net", "net": 1 + n} for n in range(NETS)]
     for v in range(VMS):
-        script.append({"do": "add_vm", "vm": f"v{v}", "net": 1 + v % NETS, "mac": mac(v), "ip": f"10.0.0.{v + 1}", "host": 0})
+        script.append({"do": "add_vm", "vm": f"v{v}", "net": 1 + v % NETS, "mac": mac(v), "ip": f"10.0.0.{v + 1}", "host": v % HOSTS})
     for n in range(NETS):
         for r in range(RULES):
             side = "egress" if r % 2 else "ingress"
             port = 80 + r
             script.append({"do": "add_rule", "net": 1 + n, "number": 1 + r, "priority": 10 * r, "side": side,
                            "action": "allow" if r % 3 else "deny", "protocol": "tcp", "destination_ports": [port, port]})
-    return {"hosts": 1, "gateways": 1, "script": script + [{"do": "wait"}, {"do": "send"}]}
+    return {"hosts": HOSTS, "gateways": 1, "script": script + [{"do": "wait"}, {"do": "send"}]}
 
 
 def mac(v):
@@ -30,7 +30,7 @@ def mac(v):
 
 def frame(i, size):
     source = i % VMS
-    destination = (source + NETS * (1 + i // VMS % 2)) % VMS
+    destination = (source + NETS * (1 + i // VMS % 3)) % VMS
     total = size - 14
     ethernet = bytes.fromhex(mac(destination).replace(":", "")) + bytes.fromhex(mac(source).replace(":", "")) + b"\x08\x00"
     ip = struct.pack(">BBHHHBBHII", 0x45, 0, total, 0, 0, 64, 6, 0, 0x0A000001 + source, 0x0A000001 + destination)

@@ -1,6 +1,7 @@
 #!/usr/bin/env bash
-# What a replay costs, in one run: 1,000, 10,000 and 100,000 frames of 100 bytes over 256 rules in 16 networks, and the reading of the largest capture
-# (a scenario without VMs, so that each frame is read and skipped) beside the plainest C. It needs the program that `rt ci` or `./demo` leaves in
+# What a replay costs, in one run: 1,000, 10,000 and 100,000 frames of 100 bytes over 8 hosts, 40 VMs and 60 rules in 4 networks, in frames and events a
+# second and peak memory, and the reading of the largest capture (a scenario without VMs, so that each frame is read and skipped) beside
+# the plainest C. It needs the program that `rt ci` or `./demo` leaves in
 # crates/andromeda/out.
 set -u
 cd "$(dirname "$0")/../.." || exit 1
@@ -26,12 +27,18 @@ ms() {
 }
 
 for frames in 1000 10000 100000; do
-  spent=$(ms "$program" replay "$work/scenario.json" "$work/$frames.pcap" x) || exit 1
-  echo "$frames frames: $spent ms, $(awk -v t="$spent" -v n="$frames" 'BEGIN { printf "%.3f", 1000 * t / n }') us a frame; $(grep -c . "$work/out") lines of report"
+  spent=$(ms "$program" replay "$work/scenario.json" "$work/$frames.pcap" "$work/x") || exit 1
+  events=$(($(wc -l <"$work/x.trace") - 1))
+  awk -v t="$spent" -v n="$frames" -v e="$events" 'BEGIN {
+    printf "%d frames, %d events: %s ms, %.3f us a frame, %.0f frames and %.0f events a second", n, e, t, 1000 * t / n, 1000 * n / t, 1000 * e / t }'
+  if [ -x /usr/bin/time ]; then
+    /usr/bin/time -f ", peak memory %M KB" "$program" replay "$work/scenario.json" "$work/$frames.pcap" "$work/x" 2>&1 >/dev/null
+  else
+    python3 -c 'import resource, subprocess, sys
+subprocess.run(sys.argv[1:], stdout=subprocess.DEVNULL, check=True)
+print(", peak memory %d KB" % resource.getrusage(resource.RUSAGE_CHILDREN).ru_maxrss)' "$program" replay "$work/scenario.json" "$work/$frames.pcap" "$work/x"
+  fi
 done
-ours=$(ms "$program" replay "$work/no-vms.json" "$work/100000.pcap" x) || exit 1
+ours=$(ms "$program" replay "$work/no-vms.json" "$work/100000.pcap" "$work/x") || exit 1
 c=$(ms "$work/read" "$work/100000.pcap") || exit 1
 echo "reading 100000 frames of 100 bytes: $ours ms, plain C $c ms, ratio $(awk -v a="$ours" -v b="$c" 'BEGIN { printf "%.2f", a / b }')"
-if [ -x /usr/bin/time ]; then
-  /usr/bin/time -f "peak memory at 100000 frames: %M KB" "$program" replay "$work/scenario.json" "$work/100000.pcap" x >/dev/null
-fi

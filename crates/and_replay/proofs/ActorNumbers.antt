@@ -1,5 +1,5 @@
 -- Numbers tell actors apart.
-use Rattle.std.proofs.Common.{◌≡◌, ℕ, ◌+◌, ◌*◌, ◌<◌, ◌≤◌, refl, ap, subst, arith, ⊎_elim}
+use Rattle.std.proofs.Common.{◌≡◌, ℕ, ◌+◌, ◌*◌, ◌<◌, ◌≤◌, ◌⊎◌, refl, ap, subst, arith, ⊎_elim}
 use Rattle.std.proofs.lemmas.Bool.{cases_lt}
 use Rattle.std.proofs.lemmas.Nat.{mul-add-lt}
 use Rattle.and_events.specs.declared.event.Actor.{Actor}
@@ -7,10 +7,11 @@ use Rattle.and_events.specs.declared.event.Actor.TheVariants.{HostInstall, GateI
 use Rattle.and_events.specs.declared.plan.Settings.{Settings}
 use Rattle.and_events.specs.declared.plan.Plan.{Plan}
 use Rattle.and_events.specs.Legal.{Enabled}
-use Rattle.and_events.specs.Ordered.{IsFirst}
 use Rattle.and_events.specs.Places.{actor_count, actor_number, IsActor}
 use Rattle.and_events.specs.State.{State}
 use Rattle.and_laws.specs.Progress.{GoesOn}
+use Rattle.and_replay.specs.declared.first.Ready.{Ready}
+use Rattle.and_replay.specs.Wakings.{AreAmong, NoneFrom}
 
 -- the kinds in order, each with where its numbers begin and how many there are
 same_row : (workers h w h' w' : ℕ) → w < workers → w' < workers → h * workers + w ≡ h' * workers + w' → h ≡ h'
@@ -97,23 +98,22 @@ number_below s Driver is = omega arith
 
 -- ---- the first that is enabled
 
--- no actor below this number is enabled
-abbrev pub NoneBelow : Plan → State → ℕ → Type 0
-NoneBelow plan s n = (b : Actor) → IsActor plan.settings b → Enabled plan s b → n ≤ actor_number plan.settings b
-
-pub none_before : (plan : Plan) (s : State) → NoneBelow plan s 0
-none_before plan s b is e = omega arith
-
-pub one_more : (plan : Plan) (s : State) (n : ℕ) (a : Actor) → NoneBelow plan s n → IsActor plan.settings a → actor_number plan.settings a ≡ n → (Enabled plan s a → ⊥) → NoneBelow plan s (n + 1)
-one_more plan s n a none is number not_a b is_b e =
+pub one_more : (plan : Plan) (s : State) (low n : ℕ) (a : Actor) → NoneFrom plan s low n → IsActor plan.settings a → actor_number plan.settings a ≡ n → (Enabled plan s a → ⊥) → NoneFrom plan s low (n + 1)
+one_more plan s low n a none is number not_a b is_b e past =
     ⊎_elim (λ (l : n < actor_number plan.settings b). omega (arith, l))
     (λ (l : actor_number plan.settings b ≤ n).
-    let same : actor_number plan.settings b ≡ actor_number plan.settings a = omega (arith, l, none b is_b e, number) in
+    let same : actor_number plan.settings b ≡ actor_number plan.settings a = omega (arith, l, none b is_b e past, number) in
     absurd (not_a (subst (Enabled plan s) (same_actor plan.settings b a is_b is same) e)))
     (cases_lt n (actor_number plan.settings b))
 
-pub is_first : (plan : Plan) (s : State) (n : ℕ) (a : Actor) → NoneBelow plan s n → actor_number plan.settings a ≡ n → IsFirst plan s a
-is_first plan s n a none number b is e = omega (arith, none b is e, number)
-
-pub some_below : (plan : Plan) (s : State) → GoesOn plan s → NoneBelow plan s (actor_count plan.settings) → ⊥
-some_below plan s g none = omega (arith, none g.actor g.is g.enabled, number_below plan.settings g.actor g.is)
+-- where none of the first numbers is an enabled actor's, one of the others is
+pub found : (plan : Plan) (s : State) (r : Ready) (high number least : ℕ) → GoesOn plan s → AreAmong plan s r → NoneFrom plan s r.low number → high ≤ number
+    → (high ≡ r.high) ⊎ (high ≡ r.least) → NoneFrom plan s r.least least → least < actor_count plan.settings
+found plan s r high number least g among none end one none' =
+    let n = actor_number plan.settings g.actor in
+    let past : r.least ≤ n = ⊎_elim
+    (λ (it : (r.low ≤ n) × (n < r.high)).
+    ⊎_elim (λ (is : high ≡ r.high). absurd (omega (arith, none g.actor g.is g.enabled it.0, it.1, end, is)))
+    (λ (is : high ≡ r.least). omega (arith, none g.actor g.is g.enabled it.0, end, is)) one)
+    (λ (it : r.least ≤ n). it) (among g.actor g.is g.enabled) in
+    omega (arith, none' g.actor g.is g.enabled past, number_below plan.settings g.actor g.is)

@@ -118,7 +118,7 @@ hands_by plan s (Ingress a i at way x) = set s.flow.hands (hand_place plan.setti
 hands_by plan s (Take a q i) = (flow_after s.flow (move_of plan s (Take a q i))).hands
 hands_by plan s _ = s.flow.hands
 
-hands_are : (plan : Plan) (s : State) (e : Event) → (after plan s e).flow.hands ≡ hands_by plan s e
+pub hands_are : (plan : Plan) (s : State) (e : Event) → (after plan s e).flow.hands ≡ hands_by plan s e
 unfolding after move_of flow_after
 hands_are plan s (Egress a i at way d) = departs_clears plan.settings s.flow (source_net plan i) (hand_place plan.settings a) i (node_of a) d
 hands_are plan s (Sealed a i end) = send_clears plan.settings s.flow (hand_place plan.settings a) i end (carried_at s i).target (carried_at s i).net

@@ -7,4 +7,6 @@ pub mod Decisions
 pub mod DueSteps
 pub mod InHands
 pub mod Unsealed
+pub mod EnabledBefore
+pub mod Readying
 pub mod Turning

@@ -1,4 +1,5 @@
 pub mod Slow
 pub mod Indexes
+pub mod Wakings
 pub mod Turns
 pub mod Deciding

@@ -212,6 +212,13 @@ impl Index {
         }
     }
 
+    /// The host of a VM.
+    pub(crate) fn place(&self, vm: u32) -> Option<u32>
+        ensures { (k : List Entry) → IsIndex self.now k → result ≡ places.place k vm }
+    {
+        self.places.get(&vm).copied()
+    }
+
     // The host of the address's owner.
     fn owner_place(&self, net: u32, address: u32) -> Option<u32>
         ensures { (k : List Entry) → IsIndex self.now k → result ≡ places.owner_place k net address }

@@ -8,6 +8,10 @@
 //! It stands on `and_book`, whose type says that its lines are a legal run, and on `and_laws` for what goes on in every run.
 //! Decisions come from an index over the log, which is looked at neither from its beginning nor once for each node: in this
 //! order every installer acts before a packet is decided of, so each node's programme is the log, and all of it installed.
+//!
+//! Whose turn it is comes from what is known of who may be enabled, kept from event to event: the numbers of those that take
+//! packets where the last one came to, and the least number of all others. An event makes nobody enabled but its own actor, the
+//! driver and those that take packets at the node to which it brings one; an Append alone may make anyone so.
 #![tactic(auto)]
 
 mod acting;
@@ -16,6 +20,7 @@ mod first;
 mod hands;
 mod index;
 mod run;
+mod waking;
 
 pub use run::{Turns, replay_run};
 

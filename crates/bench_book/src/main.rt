@@ -1,0 +1,176 @@
+//! A program to time runs by: it plans FRAMES copies of one frame that is delivered over two hosts and a gateway, runs the plan to its end, and
+//! does so ROUNDS times; it writes how many lines the books of these runs had together.
+//!
+//! It promises nothing of that number, which the stored run shows. It stands on `and_script`, `and_planner` and `and_replay`.
+#![tactic(auto)]
+
+ghost use Rattle.std.specs.Prelude.{◌≡◌, ◌≤◌, true, length, IfOk};
+ghost use Rattle.std.specs.List.{list_all};
+ghost use Rattle.and_events.specs.Sound.{plain_settings};
+ghost use Rattle.and_planner.specs.FirstItems.{is_first_item};
+ghost use Rattle.and_planner.specs.Plans.{CanPlan};
+
+use and_capture::{Bytes, Capture, Frames, Taken};
+use and_events::{Item, Scenario, Settings};
+use and_planner::{is_first_item, plan};
+use and_policy::NoMemory;
+use and_replay::{Turns, replay_run};
+use and_script::read_scenario;
+use std::alloc::Global;
+use std::process::ExitCode;
+use std::{env, io};
+
+const USAGE: &str = "usage: bench_book FRAMES ROUNDS, with at most 100000 frames";
+
+/// The most frames of a plan.
+const MOST_FRAMES: u32 = 100_000;
+
+/// Two VMs on two hosts, of which `b` takes TCP to port 80, and all frames sent.
+const SCENARIO: &str = r#"{"hosts":2,"gateways":1,"script":[{"do":"add_net","net":7},
+{"do":"add_vm","vm":"a","net":7,"mac":"02:00:00:00:00:01","ip":"10.0.0.1","host":0},
+{"do":"add_vm","vm":"b","net":7,"mac":"02:00:00:00:00:02","ip":"10.0.0.2","host":1},
+{"do":"add_rule","net":7,"number":1,"priority":100,"side":"ingress","action":"allow",
+"protocol":"tcp","destination_ports":[80,80]},{"do":"wait"},{"do":"send"}]}"#;
+
+/// A TCP frame of `a` from 10.0.0.1 port 4096 to 10.0.0.2 port 80.
+const FRAME: [u8; 54] = [
+    0x02, 0x00, 0x00, 0x00, 0x00, 0x02, 0x02, 0x00, 0x00, 0x00, 0x00, 0x01, 0x08, 0x00, 0x45, 0x00,
+    0x00, 0x28, 0x00, 0x00, 0x40, 0x00, 0x40, 0x06, 0x26, 0xce, 0x0a, 0x00, 0x00, 0x01, 0x0a, 0x00,
+    0x00, 0x02, 0x10, 0x00, 0x00, 0x50, 0x00, 0x00, 0x00, 0x01, 0x00, 0x00, 0x00, 0x00, 0x50, 0x02,
+    0x20, 0x00, 0x00, 0x00, 0x00, 0x00,
+];
+
+/// Why there is no run.
+enum Fault {
+    /// The scenario is none that can be planned so far.
+    Scenario,
+    /// Memory ran out.
+    NoMemory,
+}
+
+/// Whether the settings are those of a scenario that gives no others than the number of its hosts, with one gateway.
+fn is_plain(settings: &Settings) -> bool
+    ensures { result ≡ true → settings.now ≡ plain_settings settings.now.hosts }
+{
+    let plain = Settings {
+        hosts: settings.hosts,
+        gateways: 1,
+        workers: 2,
+        hop_limit: 16,
+        out_queue: 256,
+        wire_queue: 256,
+        seal_queue: 256,
+        threshold: 20_000,
+        life: 3,
+    };
+    *settings == plain
+}
+
+/// Whether all items are of the first kinds.
+fn are_first(items: &[Item]) -> bool
+    ensures { result ≡ list_all is_first_item items.now }
+{
+    items.iter().all(|item| is_first_item(item))
+}
+
+/// The frame, as it was captured.
+fn taken(alloc: Global) -> Result<Taken, NoMemory> {
+    let frame = Bytes::make(alloc, &FRAME).map_err(|_| NoMemory)?;
+    Ok(Taken {
+        seconds: 1,
+        fraction: 2,
+        original: 54,
+        frame,
+    })
+}
+
+/// A capture of so many copies of the frame.
+fn copies(alloc: Global, count: u32) -> Result<Capture, NoMemory>
+    requires { count ≤ 100000 }
+    ensures { IfOk result (λ c. length c.frames ≤ 100000) }
+{
+    let mut frames = Frames::new(alloc);
+    for _ in 0..count {
+        frames.push(taken(alloc)?).map_err(|_| NoMemory)?;
+    }
+    Ok(Capture {
+        nanos: false,
+        frames,
+    })
+}
+
+/// The scenario, which can be planned.
+fn scenario(alloc: Global) -> Result<Scenario, Fault>
+    ensures { IfOk result (λ s. (c : Capture) → length c.frames ≤ 100000 → CanPlan s c) }
+{
+    let Ok(scenario) = read_scenario(alloc, SCENARIO.as_bytes()) else {
+        return Err(Fault::Scenario);
+    };
+    if is_plain(&scenario.settings) && are_first(scenario.items.as_slice()) {
+        Ok(scenario)
+    } else {
+        Err(Fault::Scenario)
+    }
+}
+
+/// Plans the scenario and the capture, and runs the plan; says how many lines the book has.
+fn lines_of(alloc: Global, scenario: Scenario, capture: Capture) -> Result<u64, NoMemory>
+    requires { CanPlan scenario capture }
+{
+    let plan = plan(alloc, scenario, capture)?;
+    let book = replay_run(alloc, plan, Turns::Plain)?;
+    Ok(book.lines().len() as u64)
+}
+
+/// One run with so many frames; says how many lines its book has.
+fn run(alloc: Global, frames: u32) -> Result<u64, Fault>
+    requires { frames ≤ 100000 }
+{
+    let scenario = scenario(alloc)?;
+    let Ok(capture) = copies(alloc, frames) else {
+        return Err(Fault::NoMemory);
+    };
+    match lines_of(alloc, scenario, capture) {
+        Ok(lines) => Ok(lines),
+        Err(_) => Err(Fault::NoMemory),
+    }
+}
+
+/// So many runs; says how many lines their books have together.
+fn runs(alloc: Global, frames: u32, rounds: u32) -> Result<u64, Fault>
+    requires { frames ≤ 100000 }
+{
+    let mut sum: u64 = 0;
+    for _ in 0..rounds {
+        sum = sum.wrapping_add(run(alloc, frames)?);
+    }
+    Ok(sum)
+}
+
+/// The two numbers of the command line, after the program's name.
+fn numbers(words: &[String]) -> Option<(u32, u32)> {
+    match words {
+        [_, frames, rounds] => Some((frames.parse().ok()?, rounds.parse().ok()?)),
+        _ => None,
+    }
+}
+
+fn main(rt: HostRuntime) -> io::Result<ExitCode> {
+    let words: Vec<String> = env::args(&rt)?.collect(rt.alloc())?;
+    let Some((frames, rounds)) = numbers(words.as_slice()) else {
+        println!(rt; "{USAGE}")?;
+        return Ok(ExitCode::from(1));
+    };
+    if MOST_FRAMES < frames {
+        println!(rt; "{USAGE}")?;
+        return Ok(ExitCode::from(1));
+    }
+    match runs(rt.alloc(), frames, rounds) {
+        Ok(lines) => {
+            println!(rt; "{lines}")?;
+            Ok(ExitCode::from(0))
+        }
+        Err(Fault::Scenario) => Ok(ExitCode::from(2)),
+        Err(Fault::NoMemory) => Ok(ExitCode::from(6)),
+    }
+}

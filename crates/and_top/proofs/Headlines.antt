@@ -1,5 +1,5 @@
 -- The replay of a plan, from what the run promises and the laws of every run; and the answers of a replay.
-use Rattle.std.proofs.Common.{◌≡◌, ◌≢◌, ◌≤◌, ℕ, List, [], ◌∷◌, ◌++◌, Some, true, Result, Ok, Err, refl, sym, ap, ◌∙◌, subst, arith, inl, inr}
+use Rattle.std.proofs.Common.{◌≡◌, ℕ, List, [], ◌∷◌, ◌++◌, Result, Ok, Err, ap, ◌∙◌, subst, inr}
 use Rattle.and_capture.specs.declared.capture.Capture.{Capture}
 use Rattle.and_events.specs.declared.event.Event.{Event}
 use Rattle.and_events.specs.declared.plan.Plan.{Plan}
@@ -8,8 +8,7 @@ use Rattle.and_events.specs.Complete.{IsComplete}
 use Rattle.and_events.specs.Ordered.{IsInPlainOrder}
 use Rattle.and_events.specs.Planned.{planned}
 use Rattle.and_events.specs.Run.{Run}
-use Rattle.and_events.specs.Sound.{IsSound, IsBuilt}
-use Rattle.and_laws.specs.Fates.{IsAccounted}
+use Rattle.and_events.specs.Sound.{IsSound}
 use Rattle.and_laws.proofs.Complete.{one_fate}
 use Rattle.and_laws.proofs.Fates.{accounted}
 use Rattle.and_laws.proofs.Justified.{just}

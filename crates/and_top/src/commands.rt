@@ -1,5 +1,5 @@
 //! The program's command line: words, a status and a line for the user.
-ghost use Rattle.std.specs.Prelude.{◌≡◌, ◌↔◌, ◌⊎◌, ◌++◌, ◌∷◌, [], ℕ, List, map, Some, None, IfOk, IfErr, string_bytes};
+ghost use Rattle.std.specs.Prelude.{◌≡◌, ◌↔◌, ◌⊎◌, ◌++◌, ◌∷◌, [], map, Some, None, IfOk, IfErr, string_bytes};
 ghost use Rattle.and_top.specs.Outside.{disk};
 ghost use Rattle.and_top.specs.Telling.{stream, Tells};
 ghost use Rattle.and_top.specs.Pieces.{text_of};

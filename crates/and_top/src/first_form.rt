@@ -1,6 +1,6 @@
 //! Scenarios of the first form: networks, VMs, rules, sends and waits on one gateway, with no other settings than the number of hosts.
-ghost use Rattle.std.specs.Prelude.{◌≡◌, ◌++◌, true, Some, None, Ok, IfOk, IfErr, OnOk, option_map, bytes_eq, false};
-ghost use Rattle.std.specs.List.{list_all, list_any, filter_map};
+ghost use Rattle.std.specs.Prelude.{◌≡◌, ◌++◌, true, Some, None, Ok, IfOk, IfErr, option_map, bytes_eq, false};
+ghost use Rattle.std.specs.List.{list_any};
 ghost use Rattle.serde_json.specs.View.{view};
 ghost use Rattle.serde_json.specs.Find.{as_object};
 ghost use Rattle.and_policy.specs.LogView.{is_first};

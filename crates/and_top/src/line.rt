@@ -1,5 +1,5 @@
 //! A line for the user, in pieces.
-ghost use Rattle.std.specs.Prelude.{◌≡◌, ◌≤◌, ◌++◌, List, ℕ};
+ghost use Rattle.std.specs.Prelude.{◌≤◌};
 ghost use Rattle.std.specs.Bool.{OnTrue, OnFalse};
 ghost use Rattle.and_top.specs.Telling.{Tells, Wrote, WrotePart, stream};
 ghost use Rattle.and_top.specs.Pieces.{text_of};

@@ -1,8 +1,7 @@
 //! The replay of a scenario and the frames of a capture.
-ghost use Rattle.std.specs.Prelude.{◌≡◌, ◌++◌, List, ℕ, IfOk, IfErr, string_bytes, codes};
+ghost use Rattle.std.specs.Prelude.{◌≡◌, IfOk, IfErr, string_bytes};
 ghost use Rattle.and_top.specs.Outside.{disk, Stays};
 ghost use Rattle.and_top.specs.Inputs.{ScenarioAt, CaptureAt, Refuses};
-ghost use Rattle.and_planner.specs.Plans.{CanPlan};
 ghost use Rattle.and_top.specs.Telling.{stream};
 ghost use Rattle.and_top.specs.Statuses.{CanComplete, IsLate};
 ghost use Rattle.and_top.specs.Answers.{Answers, Leaves, Writes, names_in, trace_name};

@@ -1,5 +1,5 @@
 //! The texts of a replay: its trace and its report.
-ghost use Rattle.std.specs.Prelude.{◌≡◌, IfOk};
+ghost use Rattle.std.specs.Prelude.{IfOk};
 ghost use Rattle.and_planner.specs.Plans.{CanPlan};
 ghost use Rattle.and_top.specs.Texts.{AreTexts};
 

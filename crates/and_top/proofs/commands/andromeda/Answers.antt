@@ -1,6 +1,5 @@
 use Rattle.std.proofs.Common.{◌≡◌, Option, Some, None, Ok, Err, refl, sym, ◌∙◌}
 use Rattle.and_top.specs.Names.{named}
-use Rattle.and_top.specs.Statuses.{fault_status}
 use Rattle.and_top.specs.Words.{Named}
 use Rattle.and_top.proofs.Completing.{no_usage, late_status}
 use Rattle.and_top.proofs.commands.andromeda.Goals as goal

@@ -1,6 +1,5 @@
-use Rattle.std.proofs.Common.{◌≡◌, ◌≤◌, ◌<◌, ◌++◌, ℕ, rules, arith, true, false, length, refl, ap, sym, ◌∙◌, subst, List}
+use Rattle.std.proofs.Common.{◌≡◌, ◌≤◌, ◌<◌, ◌++◌, ℕ, rules, true, length, ◌∙◌, subst}
 use Rattle.std.proofs.Math.ListN.{get_or}
-use Rattle.and_policy.specs.declared.entry.Entry.{Entry}
 use Rattle.and_policy.specs.declared.entry.Entry.TheVariants as entries
 use Rattle.and_policy.specs.Fitting.{IsLog}
 use Rattle.std.specs.Prelude.{Some}

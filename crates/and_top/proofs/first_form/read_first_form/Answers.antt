@@ -1,4 +1,4 @@
-use Rattle.std.proofs.Common.{◌≡◌, ℕ, rules}
+use Rattle.std.proofs.Common.{rules}
 use Rattle.serde_json.specs.View.{view}
 use Rattle.and_top.proofs.FirstFormLemmas.{same_form}
 use Rattle.and_top.proofs.first_form.read_first_form.Goals as goal

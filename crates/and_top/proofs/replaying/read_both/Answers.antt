@@ -1,4 +1,4 @@
-use Rattle.std.proofs.Common.{◌≡◌, refl, inl, inr}
+use Rattle.std.proofs.Common.{inr}
 use Rattle.std.proofs.lemmas.Result.{err_from_is_err_and}
 use Rattle.and_top.proofs.Failing.{capture_fails_later}
 use Rattle.and_top.proofs.replaying.read_both.Goals as goal

@@ -1,4 +1,4 @@
-use Rattle.std.proofs.Common.{◌≡◌, rules, string_bytes}
+use Rattle.std.proofs.Common.{◌≡◌, rules}
 use Rattle.and_top.specs.Answers.{names_in, trace_name}
 use Rattle.and_top.specs.declared.TheConstants.{MOST_HOSTS}
 use Rattle.and_top.proofs.Headlines.{answers}

@@ -5,3 +5,4 @@ mod ReadBack
 mod Lines
 mod Events
 pub mod Names
+pub mod Runs

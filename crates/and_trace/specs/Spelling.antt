@@ -200,3 +200,8 @@ FitWords (w ∷ ws) = FitsWord w × FitWords ws
 unfoldable pub IsSpelled : List Event → Type 0
 IsSpelled [] = Unit {0}
 IsSpelled (e ∷ h) = IsSpelled h × HasSpelling e × FitWords (rest_of e)
+
+-- every event of the history, if it names an actor, names one that takes packets
+unfoldable pub HaveSpellings : List Event → Type 0
+HaveSpellings [] = Unit {0}
+HaveSpellings (e ∷ h) = HaveSpellings h × HasSpelling e

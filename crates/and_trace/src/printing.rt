@@ -4,7 +4,7 @@ ghost use Rattle.std.specs.List.{flat_map};
 ghost use Rattle.and_policy.specs.declared.decision.Name.{Name};
 ghost use Rattle.and_events.specs.Run.{past};
 ghost use Rattle.and_trace.specs.Spelling as spells;
-ghost use Rattle.and_trace.specs.Spelling.{spaced};
+ghost use Rattle.and_trace.specs.Spelling.{spaced, FitsWord, FitWords, HaveSpellings, IsSpelled};
 
 use crate::put::{put, put_words};
 use crate::word::{Key, Word};
@@ -13,7 +13,8 @@ use and_policy::{Dest, Name, NoMemory, Way};
 use std::alloc::Global;
 
 fn node_word(node: Node) -> Word
-    ensures { result ≡ spells.node_word node }
+    ensures word { result ≡ spells.node_word node }
+    ensures fits { FitsWord (spells.node_word node) }
 {
     match node {
         Node::Host(host) => Word::AtHost(host),
@@ -23,7 +24,8 @@ fn node_word(node: Node) -> Word
 
 // The last case is met by no event that has a spelling.
 fn actor_word(actor: Actor) -> Word
-    ensures { result ≡ spells.actor_word actor }
+    ensures word { result ≡ spells.actor_word actor }
+    ensures fits { FitsWord (spells.actor_word actor) }
 {
     match actor {
         Actor::Worker { host, index } => Word::HostWorker { host, index },
@@ -82,7 +84,8 @@ fn verdict_word(pass: bool) -> Word
 
 // A rule or a route, as the kind says, or the implied verdict.
 fn put_name(kind: Key, by: Name, text: &mut Vec<u8>) -> Result<(), NoMemory>
-    ensures { OnOk result (text.new.items ≡ text.old.items ++ flat_map spaced (spells.name_words kind by)) }
+    ensures text { OnOk result (text.new.items ≡ text.old.items ++ flat_map spaced (spells.name_words kind by)) }
+    ensures fits { FitWords (spells.name_words kind by) }
 {
     match by {
         Name::Implied => put_words(&[Word::Text(Key::Implied)], text),
@@ -91,7 +94,8 @@ fn put_name(kind: Key, by: Name, text: &mut Vec<u8>) -> Result<(), NoMemory>
 }
 
 fn put_dest(dest: Dest, text: &mut Vec<u8>) -> Result<(), NoMemory>
-    ensures { OnOk result (text.new.items ≡ text.old.items ++ flat_map spaced (spells.dest_words dest)) }
+    ensures text { OnOk result (text.new.items ≡ text.old.items ++ flat_map spaced (spells.dest_words dest)) }
+    ensures fits { FitWords (spells.dest_words dest) }
 {
     match dest {
         Dest::Offload { host, net } => put_words(
@@ -117,7 +121,8 @@ fn put_allowed(
     end: End,
     text: &mut Vec<u8>,
 ) -> Result<(), NoMemory>
-    ensures { OnOk result (text.new.items ≡ text.old.items ++ flat_map spaced (spells.departure_words (Departure.Allowed by sealed dest end))) }
+    ensures text { OnOk result (text.new.items ≡ text.old.items ++ flat_map spaced (spells.departure_words (Departure.Allowed by sealed dest end))) }
+    ensures fits { FitWords (spells.departure_words (Departure.Allowed by sealed dest end)) }
 {
     put_words(&[Word::Text(Key::Allow)], text)?;
     put_name(Key::Rule, by, text)?;
@@ -128,7 +133,8 @@ fn put_allowed(
 }
 
 fn put_departure(departure: Departure, text: &mut Vec<u8>) -> Result<(), NoMemory>
-    ensures { OnOk result (text.new.items ≡ text.old.items ++ flat_map spaced (spells.departure_words departure)) }
+    ensures text { OnOk result (text.new.items ≡ text.old.items ++ flat_map spaced (spells.departure_words departure)) }
+    ensures fits { FitWords (spells.departure_words departure) }
 {
     match departure {
         Departure::NoVm => put_words(&[Word::Text(Key::NoVm)], text),
@@ -146,7 +152,8 @@ fn put_departure(departure: Departure, text: &mut Vec<u8>) -> Result<(), NoMemor
 }
 
 fn put_passage(passage: Passage, text: &mut Vec<u8>) -> Result<(), NoMemory>
-    ensures { OnOk result (text.new.items ≡ text.old.items ++ flat_map spaced (spells.passage_words passage)) }
+    ensures text { OnOk result (text.new.items ≡ text.old.items ++ flat_map spaced (spells.passage_words passage)) }
+    ensures fits { FitWords (spells.passage_words passage) }
 {
     match passage {
         Passage::Dropped { by } => {
@@ -177,7 +184,8 @@ fn put_passage(passage: Passage, text: &mut Vec<u8>) -> Result<(), NoMemory>
 }
 
 fn put_return(back: Return, text: &mut Vec<u8>) -> Result<(), NoMemory>
-    ensures { OnOk result (text.new.items ≡ text.old.items ++ flat_map spaced (spells.return_words back)) }
+    ensures text { OnOk result (text.new.items ≡ text.old.items ++ flat_map spaced (spells.return_words back)) }
+    ensures fits { FitWords (spells.return_words back) }
 {
     match back {
         Return::NoOwner => put_words(&[Word::Text(Key::NoOwner)], text),
@@ -191,7 +199,8 @@ fn put_return(back: Return, text: &mut Vec<u8>) -> Result<(), NoMemory>
 
 // The VM, and what the word says of it.
 fn put_vm(vm: u32, what: Key, text: &mut Vec<u8>) -> Result<(), NoMemory>
-    ensures { OnOk result (text.new.items ≡ text.old.items ++ flat_map spaced (Word.Text Key.Vm ∷ Word.Number vm ∷ Word.Text what ∷ [])) }
+    ensures text { OnOk result (text.new.items ≡ text.old.items ++ flat_map spaced (Word.Text Key.Vm ∷ Word.Number vm ∷ Word.Text what ∷ [])) }
+    ensures fits { FitWords (Word.Text Key.Vm ∷ Word.Number vm ∷ Word.Text what ∷ []) }
 {
     put_words(
         &[Word::Text(Key::Vm), Word::Number(vm), Word::Text(what)],
@@ -200,7 +209,8 @@ fn put_vm(vm: u32, what: Key, text: &mut Vec<u8>) -> Result<(), NoMemory>
 }
 
 fn put_arrival(arrival: Arrival, text: &mut Vec<u8>) -> Result<(), NoMemory>
-    ensures { OnOk result (text.new.items ≡ text.old.items ++ flat_map spaced (spells.arrival_words arrival)) }
+    ensures text { OnOk result (text.new.items ≡ text.old.items ++ flat_map spaced (spells.arrival_words arrival)) }
+    ensures fits { FitWords (spells.arrival_words arrival) }
 {
     match arrival {
         Arrival::NoOwner => put_words(&[Word::Text(Key::NoOwner)], text),
@@ -223,7 +233,8 @@ fn put_arrival(arrival: Arrival, text: &mut Vec<u8>) -> Result<(), NoMemory>
 
 // The actor, the packet and the number of operations of a decision.
 fn put_decider(actor: Actor, packet: u32, at: u32, text: &mut Vec<u8>) -> Result<(), NoMemory>
-    ensures { OnOk result (text.new.items ≡ text.old.items ++ flat_map spaced (spells.actor_word actor ∷ Word.Number packet ∷ Word.Number at ∷ [])) }
+    ensures text { OnOk result (text.new.items ≡ text.old.items ++ flat_map spaced (spells.actor_word actor ∷ Word.Number packet ∷ Word.Number at ∷ [])) }
+    ensures fits { FitWords (spells.actor_word actor ∷ Word.Number packet ∷ Word.Number at ∷ []) }
 {
     put_words(
         &[actor_word(actor), Word::Number(packet), Word::Number(at)],
@@ -266,7 +277,8 @@ fn put_egress(
     departure: Departure,
     text: &mut Vec<u8>,
 ) -> Result<(), NoMemory>
-    ensures { OnOk result (text.new.items ≡ text.old.items ++ flat_map spaced (spells.rest_of (Event.Egress actor packet at way departure))) }
+    ensures text { OnOk result (text.new.items ≡ text.old.items ++ flat_map spaced (spells.rest_of (Event.Egress actor packet at way departure))) }
+    ensures fits { FitWords (spells.rest_of (Event.Egress actor packet at way departure)) }
 {
     put_decider(actor, packet, at, text)?;
     put_words(&[way_word(way)], text)?;
@@ -281,7 +293,8 @@ fn put_route(
     passage: Passage,
     text: &mut Vec<u8>,
 ) -> Result<(), NoMemory>
-    ensures { OnOk result (text.new.items ≡ text.old.items ++ flat_map spaced (spells.rest_of (Event.Route actor packet at passage))) }
+    ensures text { OnOk result (text.new.items ≡ text.old.items ++ flat_map spaced (spells.rest_of (Event.Route actor packet at passage))) }
+    ensures fits { FitWords (spells.rest_of (Event.Route actor packet at passage)) }
 {
     put_decider(actor, packet, at, text)?;
     put_passage(passage, text)?;
@@ -295,7 +308,8 @@ fn put_redirect(
     back: Return,
     text: &mut Vec<u8>,
 ) -> Result<(), NoMemory>
-    ensures { OnOk result (text.new.items ≡ text.old.items ++ flat_map spaced (spells.rest_of (Event.Redirect actor packet at back))) }
+    ensures text { OnOk result (text.new.items ≡ text.old.items ++ flat_map spaced (spells.rest_of (Event.Redirect actor packet at back))) }
+    ensures fits { FitWords (spells.rest_of (Event.Redirect actor packet at back)) }
 {
     put_decider(actor, packet, at, text)?;
     put_return(back, text)?;
@@ -310,7 +324,8 @@ fn put_ingress(
     arrival: Arrival,
     text: &mut Vec<u8>,
 ) -> Result<(), NoMemory>
-    ensures { OnOk result (text.new.items ≡ text.old.items ++ flat_map spaced (spells.rest_of (Event.Ingress actor packet at way arrival))) }
+    ensures text { OnOk result (text.new.items ≡ text.old.items ++ flat_map spaced (spells.rest_of (Event.Ingress actor packet at way arrival))) }
+    ensures fits { FitWords (spells.rest_of (Event.Ingress actor packet at way arrival)) }
 {
     put_decider(actor, packet, at, text)?;
     put_words(&[way_word(way)], text)?;
@@ -320,21 +335,65 @@ fn put_ingress(
 
 // The words after the first of an event that is a step of the plan.
 fn put_step(step: u32, text: &mut Vec<u8>) -> Result<(), NoMemory>
-    ensures { OnOk result (text.new.items ≡ text.old.items ++ flat_map spaced (Word.Number step ∷ [])) }
+    ensures text { OnOk result (text.new.items ≡ text.old.items ++ flat_map spaced (Word.Number step ∷ [])) }
+    ensures fits { FitWords (Word.Number step ∷ []) }
 {
     put_words(&[Word::Number(step)], text)
 }
 
+// The words after the first of a packet's entry.
+fn put_inject(step: u32, packet: u32, full: bool, text: &mut Vec<u8>) -> Result<(), NoMemory>
+    ensures text { OnOk result (text.new.items ≡ text.old.items ++ flat_map spaced (spells.rest_of (Event.Inject step packet full))) }
+    ensures fits { FitWords (spells.rest_of (Event.Inject step packet full)) }
+{
+    put_words(
+        &[Word::Number(step), Word::Number(packet), full_word(full)],
+        text,
+    )
+}
+
+// The words after the first where an actor takes a packet.
+fn put_take(actor: Actor, queue: Queue, packet: u32, text: &mut Vec<u8>) -> Result<(), NoMemory>
+    ensures text { OnOk result (text.new.items ≡ text.old.items ++ flat_map spaced (spells.rest_of (Event.Take actor queue packet))) }
+    ensures fits { FitWords (spells.rest_of (Event.Take actor queue packet)) }
+{
+    put_words(
+        &[actor_word(actor), queue_word(queue), Word::Number(packet)],
+        text,
+    )
+}
+
+// The words after the first of a packet that a coprocessor has sealed.
+fn put_sealed(actor: Actor, packet: u32, end: End, text: &mut Vec<u8>) -> Result<(), NoMemory>
+    ensures text { OnOk result (text.new.items ≡ text.old.items ++ flat_map spaced (spells.rest_of (Event.Sealed actor packet end))) }
+    ensures fits { FitWords (spells.rest_of (Event.Sealed actor packet end)) }
+{
+    put_words(
+        &[actor_word(actor), Word::Number(packet), end_word(end)],
+        text,
+    )
+}
+
+// The words after the first of a hairpin's end.
+fn put_unpin(host: u32, vm: u32, text: &mut Vec<u8>) -> Result<(), NoMemory>
+    ensures text { OnOk result (text.new.items ≡ text.old.items ++ flat_map spaced (spells.rest_of (Event.Unpin host vm))) }
+    ensures fits { FitWords (spells.rest_of (Event.Unpin host vm)) }
+{
+    put_words(&[Word::AtHost(host), Word::Number(vm)], text)
+}
+
 // The words after the first of an event of an installer.
 fn put_install(node: Node, upto: u32, text: &mut Vec<u8>) -> Result<(), NoMemory>
-    ensures { OnOk result (text.new.items ≡ text.old.items ++ flat_map spaced (spells.node_word node ∷ Word.Number upto ∷ [])) }
+    ensures text { OnOk result (text.new.items ≡ text.old.items ++ flat_map spaced (spells.node_word node ∷ Word.Number upto ∷ [])) }
+    ensures fits { FitWords (spells.node_word node ∷ Word.Number upto ∷ []) }
 {
     put_words(&[node_word(node), Word::Number(upto)], text)
 }
 
 // The words after the first.
 fn put_rest(event: &Event, text: &mut Vec<u8>) -> Result<(), NoMemory>
-    ensures { OnOk result (text.new.items ≡ text.old.items ++ flat_map spaced (spells.rest_of event.now)) }
+    ensures text { OnOk result (text.new.items ≡ text.old.items ++ flat_map spaced (spells.rest_of event.now)) }
+    ensures fits { FitWords (spells.rest_of event.now) }
 {
     match *event {
         Event::Append { step } => put_step(step, text),
@@ -345,24 +404,15 @@ fn put_rest(event: &Event, text: &mut Vec<u8>) -> Result<(), NoMemory>
         Event::Blackout { step } => put_step(step, text),
         Event::Resume { step } => put_step(step, text),
         Event::Finish { step } => put_step(step, text),
-        Event::Inject { step, packet, full } => put_words(
-            &[Word::Number(step), Word::Number(packet), full_word(full)],
-            text,
-        ),
+        Event::Inject { step, packet, full } => put_inject(step, packet, full, text),
         Event::Announce { node, upto } => put_install(node, upto, text),
         Event::Installed { node, upto } => put_install(node, upto, text),
         Event::Take {
             actor,
             queue,
             packet,
-        } => put_words(
-            &[actor_word(actor), queue_word(queue), Word::Number(packet)],
-            text,
-        ),
-        Event::Sealed { actor, packet, end } => put_words(
-            &[actor_word(actor), Word::Number(packet), end_word(end)],
-            text,
-        ),
+        } => put_take(actor, queue, packet, text),
+        Event::Sealed { actor, packet, end } => put_sealed(actor, packet, end, text),
         Event::Egress {
             actor,
             packet,
@@ -389,13 +439,14 @@ fn put_rest(event: &Event, text: &mut Vec<u8>) -> Result<(), NoMemory>
             way,
             arrival,
         } => put_ingress(actor, packet, at, way, arrival, text),
-        Event::Unpin { host, vm } => put_words(&[Word::AtHost(host), Word::Number(vm)], text),
+        Event::Unpin { host, vm } => put_unpin(host, vm, text),
     }
 }
 
 // The line of an event.
 fn put_line(event: &Event, text: &mut Vec<u8>) -> Result<(), NoMemory>
-    ensures { OnOk result (text.new.items ≡ text.old.items ++ spells.line_of event.now) }
+    ensures text { OnOk result (text.new.items ≡ text.old.items ++ spells.line_of event.now) }
+    ensures fits { OnOk result (FitWords (spells.rest_of event.now)) }
 {
     put(kind_of(event).text().as_bytes(), text)?;
     put_rest(event, text)?;
@@ -407,7 +458,8 @@ fn put_line(event: &Event, text: &mut Vec<u8>) -> Result<(), NoMemory>
 /// words, one space between two, numbers in decimal. Each line is to have a spelling, as the lines of a run have:
 /// an actor that takes no packets has no word of its own.
 pub fn print_trace(alloc: Global, lines: &[Line]) -> Result<Vec<u8>, NoMemory>
-    ensures { IfOk result (λ t. t.items ≡ spells.trace (past lines.now)) }
+    ensures text { IfOk result (λ t. t.items ≡ spells.trace (past lines.now)) }
+    ensures spelled { IfOk result (λ t. HaveSpellings (past lines.now) → IsSpelled (past lines.now)) }
 {
     let mut text = Vec::new(alloc);
     put(b"andromeda trace 1\n", &mut text)?;

@@ -13,6 +13,7 @@ use Rattle.and_top.specs.Outside.{Disk, IsQuiet, ReadFailed, WasTooLong}
 use Rattle.and_top.specs.Statuses.{CanComplete, IsLate, fault_status}
 use Rattle.and_top.specs.Telling.{Stream}
 use Rattle.and_top.specs.Words.{Named}
+use Rattle.and_top.proofs.Failing.{capture_fails_later}
 
 no_read_failed : (old new : Disk) (name t : List ℕ) → old.content name ≡ Some t → IsQuiet old new → ReadFailed old new name → ⊥
 no_read_failed old new name t told (inl calm) failed = failed.never t told calm
@@ -46,7 +47,7 @@ done_late names old new before after fault f = absurd f.1
 
 refused_late : (names : Named) (old new : Disk) (fault : Fault) → CanComplete names old new → Refuses names old new fault → IsLate fault
 refused_late names old new fault can (inl f) = scenario_late names old new fault can f
-refused_late names old new fault can (inr f) = capture_late names old new fault can f.2
+refused_late names old new fault can (inr f) = capture_late names old new fault can (capture_fails_later old f.0 new names.capture fault f.1 f.4)
 
 pub completes : (names : Named) (old new : Disk) (before after : Stream) (result : Result (Unit {0}) Fault)
     → CanComplete names old new → Answers names old new before after result → IfErr result IsLate

@@ -15,7 +15,8 @@ use Rattle.and_laws.proofs.Justified.{just}
 use Rattle.and_laws.proofs.Needs.{fresh}
 use Rattle.and_replay.specs.Slow.{AreSlow}
 use Rattle.and_report.specs.Report.{report}
-use Rattle.and_trace.specs.Spelling.{trace}
+use Rattle.and_trace.specs.Spelling.{HaveSpellings, IsSpelled, trace}
+use Rattle.and_trace.proofs.Runs.{runs_have_spellings}
 use Rattle.and_top.specs.declared.texts.Texts.{Texts}
 use Rattle.and_outside.specs.Causes.{Rose}
 use Rattle.and_planned.proofs.Planned.{planned_is_sound}
@@ -40,8 +41,8 @@ unfolding Run
 earlier_runs plan [] earlier run = run
 earlier_runs plan (e ∷ later) earlier run = earlier_runs plan later earlier run.0
 
-pub is_replay : (plan : Plan) (h : List Event) → IsSound plan → Run plan h → IsComplete plan h → IsInPlainOrder plan h → AreSlow h → IsReplay plan h
-is_replay plan h sound run complete ordered slow =
+pub is_replay : (plan : Plan) (h : List Event) → IsSound plan → Run plan h → IsComplete plan h → IsInPlainOrder plan h → AreSlow h → (HaveSpellings h → IsSpelled h) → IsReplay plan h
+is_replay plan h sound run complete ordered slow spelled =
     record {
       run = run;
       complete = complete;
@@ -51,15 +52,16 @@ is_replay plan h sound run complete ordered slow =
       fresh = fresh plan h run;
       accounted = λ later earlier is. accounted plan earlier (earlier_runs plan later earlier (subst (Run plan) is run));
       slow = slow;
+      spelled = spelled (runs_have_spellings plan h run);
     }
 
 -- the texts of a run of the plan
 pub texts_are : (scenario : Scenario) (capture : Capture) (plan other : Plan) (h : List Event) (texts : Texts) → plan ≡ planned scenario capture → IsSound plan → Run plan h → IsComplete plan h
-    → IsInPlainOrder plan h → AreSlow h → other ≡ plan → texts.trace.items ≡ trace h → texts.report.items ≡ report other h → AreTexts scenario capture texts
-texts_are scenario capture plan other h texts is sound run complete ordered slow same t r =
+    → IsInPlainOrder plan h → AreSlow h → other ≡ plan → (HaveSpellings h → IsSpelled h) → texts.trace.items ≡ trace h → texts.report.items ≡ report other h → AreTexts scenario capture texts
+texts_are scenario capture plan other h texts is sound run complete ordered slow same spelled t r =
     record {
       history = h;
-      replays = subst (λ p. IsReplay p h) is (is_replay plan h sound run complete ordered slow);
+      replays = subst (λ p. IsReplay p h) is (is_replay plan h sound run complete ordered slow spelled);
       trace = t;
       report = r ∙ ap (λ p. report p h) (same ∙ is);
     }

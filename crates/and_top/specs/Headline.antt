@@ -14,14 +14,15 @@ use Rattle.and_events.specs.Sound.{IsSound, IsBuilt}
 use Rattle.and_laws.specs.Fates.{HasOneFate, IsAccounted}
 use Rattle.and_replay.specs.Slow.{AreSlow}
 use Rattle.and_report.specs.Report.{report}
-use Rattle.and_trace.specs.Spelling.{trace}
+use Rattle.and_trace.specs.Spelling.{IsSpelled, trace}
 use Rattle.and_top.specs.Inputs.{ScenarioAt, CaptureAt}
 use Rattle.and_top.specs.Outside.{Disk}
 use Rattle.and_top.specs.Words.{Named}
 
 -- The history, whose newest event is first, is the run of the plan to its end in the plain order. Each packet of the plan has exactly one
 -- fate, for its reason, by decisions no older than what was installed when it was taken; and after each event the packets
--- injected so far are as many as the fates, the queued and the held together. No decision comes from a flow cache
+-- injected so far are as many as the fates, the queued and the held together. No decision comes from a flow cache.
+-- Each event has a spelling: no other history whose events have one has this trace
 pub record IsReplay (plan : Plan) (h : List Event) : Type 0 where
   pub run : Run plan h
   pub complete : IsComplete plan h
@@ -31,8 +32,9 @@ pub record IsReplay (plan : Plan) (h : List Event) : Type 0 where
   pub fresh : (packet : ℕ) → Fresh plan h packet
   pub accounted : (later earlier : List Event) → h ≡ later ++ earlier → IsAccounted plan earlier
   pub slow : AreSlow h
+  pub spelled : IsSpelled h
 
--- both files were read when the call began, what they plan is sound and what the program runs so far, and it was run
+-- both files as they were when the call began, where they are told; what they plan is sound and what the program runs so far, and it was run
 pub record Ran (names : Named) (files : Disk) : Type 0 where
   pub scenario : Scenario
   pub capture : Capture

@@ -14,7 +14,7 @@ use Rattle.and_top.specs.declared.answers.Which.TheVariants as which
 use Rattle.and_top.specs.declared.answers.Fault.{Fault}
 use Rattle.and_top.specs.declared.answers.Fault.TheVariants as faults
 use Rattle.and_top.specs.FirstForm.{IsFirstForm}
-use Rattle.and_top.specs.Outside.{Disk, Holds, ReadFailed, WasTooLong}
+use Rattle.and_top.specs.Outside.{Disk, Stays, Holds, ReadFailed, WasTooLong}
 use Rattle.and_top.specs.Words.{Named}
 
 -- the fault of a read that did not succeed
@@ -28,28 +28,28 @@ pub record IsFirstCapture (bytes : List ℕ) (capture : Capture) : Type 0 where
   pub micros : is_little_micros bytes ≡ true
   pub reads : reading bytes ≡ Ok capture
 
--- the file of this name was read and is this scenario
+-- some bytes, the content of this name where that is told, are this scenario
 pub record ScenarioAt (files : Disk) (name : List ℕ) (scenario : Scenario) : Type 0 where
   pub bytes : List ℕ
   pub held : Holds files name bytes
   pub within : length bytes ≤ MAX_SCENARIO_LEN
   pub form : IsFirstForm MOST_HOSTS bytes scenario
 
--- the file of this name was read and is no scenario
+-- some bytes, the content of this name where that is told, are no scenario
 pub record NoScenarioAt (files : Disk) (name : List ℕ) : Type 0 where
   pub bytes : List ℕ
   pub held : Holds files name bytes
   pub within : length bytes ≤ MAX_SCENARIO_LEN
   pub none : (scenario : Scenario) → IsFirstForm MOST_HOSTS bytes scenario → ⊥
 
--- the file of this name was read and is this capture
+-- some bytes, the content of this name where that is told, are this capture
 pub record CaptureAt (files : Disk) (name : List ℕ) (capture : Capture) : Type 0 where
   pub bytes : List ℕ
   pub held : Holds files name bytes
   pub within : length bytes ≤ MAX_CAPTURE_LEN
   pub form : IsFirstCapture bytes capture
 
--- the file of this name was read and is no capture
+-- some bytes, the content of this name where that is told, are no capture
 pub record NoCaptureAt (files : Disk) (name : List ℕ) : Type 0 where
   pub bytes : List ℕ
   pub held : Holds files name bytes
@@ -72,8 +72,9 @@ CaptureFails old new name (faults.Capture capture_faults.NotBuilt) = NoCaptureAt
 CaptureFails old new name faults.NoMemory = Unit {0}
 CaptureFails old new name _ = ⊥
 
--- The work ended with this fault before the report was put: on the scenario, or, after a scenario, on the capture.
+-- The work ended with this fault before the report was put: on the scenario, or, after the scenario was read and taken, on the capture. What the
+-- second read counts is counted from the moment between the two.
 abbrev pub Refuses : Named → Disk → Disk → Fault → Type 0
 Refuses names old new fault =
     ScenarioFails old new names.scenario fault
-    ⊎ ((scenario : Scenario) × ScenarioAt old names.scenario scenario × CaptureFails old new names.capture fault)
+    ⊎ ((mid : Disk) × Stays old mid × (scenario : Scenario) × ScenarioAt old names.scenario scenario × CaptureFails mid new names.capture fault)

@@ -86,7 +86,8 @@ fn work<F: Files, O: Sink>(
 /// then puts the report into the sink. The first failure in that order is answered, and no file is written before both texts stand.
 ///
 /// Each packet of the plan has exactly one fate in the history that the trace spells, for its reason, and by decisions no older
-/// than what was installed when it was taken: that is what [`Ok`] and the faults of the writes say.
+/// than what was installed when it was taken: that is what [`Ok`] and the faults of the writes say, of the contents of files and of
+/// the sink where those are told.
 ///
 /// Where both files are told, within their limits and accepted, and no read can have failed, it
 /// answers `Ok`, or that memory ran out or that a write failed.

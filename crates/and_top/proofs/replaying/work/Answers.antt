@@ -1,4 +1,5 @@
-use Rattle.std.proofs.Common.{◌≡◌, rules}
+use Rattle.std.proofs.Common.{◌≡◌, refl, rules, inl}
+use Rattle.std.proofs.lemmas.Result.{err_from_is_err_and}
 use Rattle.and_top.specs.Answers.{names_in, trace_name}
 use Rattle.and_top.specs.declared.TheConstants.{MOST_HOSTS}
 use Rattle.and_top.proofs.Headlines.{answers}
@@ -9,6 +10,11 @@ pub texts_of-requires : goal.texts_of-requires
 texts_of-requires g c =
     can_plan MOST_HOSTS c.in_ok-scenario.ensures.scenario.bytes c.in_ok-scenario.ensures.capture.bytes c.in_ok-scenario.scenario c.in_ok-scenario.capture
     c.in_ok-scenario.ensures.scenario.form c.in_ok-scenario.ensures.capture.form.reads
+
+pub returns-in_err-scenario-clause-answer : goal.returns-in_err-scenario-clause-answer
+returns-in_err-scenario-clause-answer g c =
+    let p = err_from_is_err_and c.from_residual.result c.from_residual.ensures.1 in
+    rw (p.1, p.2) (inl (c.in_err-scenario.ensures.refused, c.in_err-scenario.ensures.stays.contents, refl))
 
 pub returns-clause-answer : goal.returns-clause-answer
 returns-clause-answer g c =

@@ -10,9 +10,9 @@ use std::alloc::Global;
 use std::process::Abort;
 use std::test::Fail;
 
-const W0: Actor = Actor::Worker { host: 0, index: 0 };
+const WORKER_0: Actor = Actor::Worker { host: 0, index: 0 };
 
-const W1: Actor = Actor::Worker { host: 1, index: 0 };
+const WORKER_1: Actor = Actor::Worker { host: 1, index: 0 };
 
 const C0: Actor = Actor::Coproc(0);
 
@@ -40,7 +40,7 @@ macro_rules! installed {
 // A packet leaves a VM of host 0.
 macro_rules! egress {
     ($packet:expr, $way:expr, $departure:expr) => {
-        Event::Egress { actor: W0, packet: $packet, at: 4, way: $way, departure: $departure }
+        Event::Egress { actor: WORKER_0, packet: $packet, at: 4, way: $way, departure: $departure }
     };
 }
 
@@ -333,7 +333,7 @@ const WHOLE_PATH: [Event; 37] = [
         full: false,
     },
     Event::Take {
-        actor: W0,
+        actor: WORKER_0,
         queue: Queue::Out,
         packet: 0,
     },
@@ -345,11 +345,11 @@ const WHOLE_PATH: [Event; 37] = [
     },
     route!(0, onward!(7)),
     Event::Take {
-        actor: W1,
+        actor: WORKER_1,
         queue: Queue::Wire,
         packet: 0,
     },
-    ingress!(W1, 0, Way::Slow, running!(1, Name::Rule(1), true)),
+    ingress!(WORKER_1, 0, Way::Slow, running!(1, Name::Rule(1), true)),
     Event::Finish { step: 6 },
 ];
 
@@ -444,12 +444,12 @@ const ALL_FATES: [Event; 42] = [
     // ingress rules, by the network under which the packet came
     egress!(4, Way::Slow, LEAVES),
     route!(4, onward!(9)),
-    ingress!(W1, 4, Way::Slow, running!(1, Name::Implied, false)),
+    ingress!(WORKER_1, 4, Way::Slow, running!(1, Name::Implied, false)),
     egress!(10, Way::Slow, LEAVES),
     route!(10, onward!(9)),
-    ingress!(W1, 10, Way::Slow, running!(1, Name::Rule(4), false)),
+    ingress!(WORKER_1, 10, Way::Slow, running!(1, Name::Rule(4), false)),
     egress!(11, Way::Fast, leaves!(false, OFFLOAD, End::Queued)),
-    ingress!(W0, 11, Way::Slow, running!(0, Name::Rule(2), false)),
+    ingress!(WORKER_0, 11, Way::Slow, running!(0, Name::Rule(2), false)),
     // routes
     egress!(5, Way::Slow, LEAVES),
     route!(5, Passage::Dropped { by: Name::Rule(6) }),
@@ -471,15 +471,15 @@ const ALL_FATES: [Event; 42] = [
     route!(13, Passage::Hops { by: Name::Implied }),
     egress!(14, Way::Slow, LEAVES),
     route!(14, onward!(9)),
-    ingress!(W1, 14, Way::Slow, Arrival::Blackout { vm: 1 }),
+    ingress!(WORKER_1, 14, Way::Slow, Arrival::Blackout { vm: 1 }),
     // a hairpin and a redirect, each to a delivery
     egress!(15, Way::Slow, LEAVES),
     route!(15, onward!(9)),
-    ingress!(W1, 15, Way::Slow, hairpin!(End::Queued)),
-    ingress!(W0, 15, Way::Slow, running!(1, Name::Rule(1), true)),
+    ingress!(WORKER_1, 15, Way::Slow, hairpin!(End::Queued)),
+    ingress!(WORKER_0, 15, Way::Slow, running!(1, Name::Rule(1), true)),
     egress!(16, Way::Slow, LEAVES),
     route!(16, onward!(7)),
-    ingress!(W1, 16, Way::Slow, absent!(0, End::Queued)),
+    ingress!(WORKER_1, 16, Way::Slow, absent!(0, End::Queued)),
     redirect!(
         16,
         Return::Send {
@@ -487,10 +487,10 @@ const ALL_FATES: [Event; 42] = [
             end: End::Queued,
         }
     ),
-    ingress!(W0, 16, Way::Fast, running!(0, Name::Rule(2), true)),
+    ingress!(WORKER_0, 16, Way::Fast, running!(0, Name::Rule(2), true)),
     // those at a full queue and without a hop, a redirect to nobody, and a gateway's full queue
-    ingress!(W1, 17, Way::Slow, hairpin!(End::Full)),
-    ingress!(W1, 18, Way::Slow, absent!(1, End::Hops)),
+    ingress!(WORKER_1, 17, Way::Slow, hairpin!(End::Full)),
+    ingress!(WORKER_1, 18, Way::Slow, absent!(1, End::Hops)),
     redirect!(19, Return::NoOwner),
     egress!(20, Way::Slow, leaves!(false, HOVER, End::Full)),
     // a sealed packet keeps the network of its Egress
@@ -500,7 +500,7 @@ const ALL_FATES: [Event; 42] = [
         packet: 21,
         end: End::Queued,
     },
-    ingress!(W0, 21, Way::Slow, running!(0, Name::Implied, false)),
+    ingress!(WORKER_0, 21, Way::Slow, running!(0, Name::Implied, false)),
 ];
 
 const ALL_FATES_TEXT: &str = "andromeda report 1

@@ -56,7 +56,8 @@ impl Model for Book {
 
 impl Book {
     /// A book without lines. It takes all the memory that the parts of the state ever want; lines get theirs by
-    /// [`Book::room`]. After want of memory the plan is gone.
+    /// [`Book::room`]. After want of memory the plan is gone. `threads` is the number of threads: the seat of an actor is
+    /// 1 + its number modulo `threads`. 0 means no threads, and then every actor has seat 0.
     pub fn make(alloc: Global, plan: Plan, threads: u32) -> Result<Book, NoMemory>
         requires sound { IsSound plan }
         requires built { IsBuilt plan }
@@ -151,7 +152,8 @@ impl Book {
         self.traffic.carried(packet)
     }
 
-    /// Whether one of the actor's events is legal. It takes the same few steps however long the run is.
+    /// Whether the actor is enabled: a condition of its events holds, or it has a packet in hand. It takes the same few steps
+    /// however long the run is.
     pub fn enabled(&self, actor: Actor) -> bool
         ensures { IsTrue result ↔ Enabled self.now.plan (now self.now) actor }
     {
@@ -256,7 +258,8 @@ impl Book {
 
     /// The actor takes the first packet of its queue: a host worker from `out` only where `wire` is empty. The parcel is the
     /// actor's until it settles the packet. From `wire` it has the outer bytes of the send that put it there, the packet's
-    /// newest one.
+    /// newest one. It needs room for two events beside those that settle the packets in hand: its own, and the one that settles
+    /// this packet.
     pub fn take(&mut self, seat: u32, actor: Actor) -> (Held, Parcel)
         requires seat { IsSeat self.old seat actor }
         requires ready { MayTake self.old.plan (now self.old) actor }

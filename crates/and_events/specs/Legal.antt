@@ -275,7 +275,7 @@ Legal plan s (Unpin host vm) = CanUnpin plan s host vm
 abbrev pub HasHand : Plan → State → Actor → Type 0
 HasHand plan s a = (h : Held) × (hand_at s.flow.hands (hand_place plan.settings a) ≡ Some h)
 
--- one of the actor's events is legal; an actor with a packet in hand has one
+-- the actor is enabled: a condition of its events holds, or it has a packet in hand
 abbrev pub Enabled : Plan → State → Actor → Type 0
 Enabled plan s (HostInstall h) = CanAnnounce plan s (Host h) ⊎ CanInstall plan s (Host h)
 Enabled plan s (GateInstall g) = CanAnnounce plan s (Gate g) ⊎ CanInstall plan s (Gate g)

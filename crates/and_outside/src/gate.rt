@@ -1,7 +1,8 @@
 //! A gate between a take and its decision.
 
-/// What the thread loop calls between the take of a packet and its decision. It takes no memory and
-/// changes nothing that contracts see, so a test can hold an actor there.
+/// What a thread loop is to call between the take of a packet and its decision; nothing but a test
+/// calls it yet. It takes no memory and changes nothing that contracts see, so a test can hold an actor
+/// there.
 pub trait Gate {
     /// The actor with this number has taken the packet with that number.
     fn at(&self, actor: u32, packet: u32);

@@ -1,4 +1,5 @@
-//! The outside of the product: files by name, sinks of bytes, and a gate that the thread loop calls.
+//! The outside of the product: files by name, sinks of bytes, and a gate that a thread loop is to call; nothing but a test calls
+//! it yet.
 //!
 //! `Files` and `Sink` promise that each failure shows in a count, and, where an implementation
 //! tells contents, what stands in each file and what was written. `MemoryFiles` and `MemorySink`

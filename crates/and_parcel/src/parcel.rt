@@ -33,7 +33,8 @@ impl Model for Parcel {
 }
 
 impl Parcel {
-    /// A parcel of a frame that is a packet for the switch. Its outer headers are zero bytes.
+    /// A parcel of a frame that is a packet for the switch. Its outer headers are zero bytes. Want of memory is the only
+    /// error.
     pub fn make(alloc: Global, frame: &[u8], packet: u32, vm: u32) -> Result<Parcel, NoMemory>
         requires { IsOk (fields frame.now) }
         ensures { IfOk result (λ parcel. parcel ≡ record { header = replicate 36 0; frame = frame.now; packet = packet; vm = vm }) }

@@ -148,7 +148,7 @@ fn works(plan: &Plan, s: &State, actor: Actor) -> bool
     has || takes
 }
 
-/// Whether one of the actor's events is legal.
+/// Whether the actor is enabled: a condition of its events holds, or it has a packet in hand.
 pub fn is_enabled(plan: &Plan, s: &State, actor: Actor) -> bool
     ensures { IsTrue result ↔ spec.Enabled plan.now s.now actor }
 {

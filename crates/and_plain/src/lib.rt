@@ -1,7 +1,8 @@
 //! The system as a plain program: each function computes the definition of its name over plain lists, slowly and exactly.
 //!
-//! It promises the state after a list of events, and whether an event is legal in a state: each contract is the definition
-//! itself, both ways. It stands on the definitions of `and_events`, and on the plain policy of `and_policy`.
+//! It promises the state after a list of events, whether an event is legal in a state, the first event of a list that is not
+//! legal, and whether an actor is enabled: each contract is the definition itself, both ways. It stands on the definitions of
+//! `and_events`, and on the plain policy of `and_policy`.
 #![tactic(auto)]
 
 mod conditions;

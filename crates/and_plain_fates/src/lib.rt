@@ -1,9 +1,9 @@
 //! What a list of events says of each packet, and whether it is a whole run in the plain order: a plain program.
 //!
-//! Each function computes the definition of its name over a list of events, the oldest of which is first, slowly and
-//! exactly: a packet's fates and places, whether its decisions are fresh, whether each of its fates has its reason, whether
-//! the list is complete, and whether at each event the first of the enabled actors acted. It stands on the definitions of
-//! `and_events` and on the states of `and_plain`.
+//! Each function computes a definition, slowly and exactly. Most do so over a list of events, the oldest of which is first:
+//! a packet's fates, whether its decisions are fresh, whether each of its fates has its reason, whether the list is complete,
+//! and whether at each event the first of the enabled actors acted. [`places`] counts the places of a packet in a state. It
+//! stands on the definitions of `and_events` and on the states of `and_plain`.
 #![tactic(auto)]
 
 mod all;

@@ -1,4 +1,4 @@
--- Items of the first kinds are such as the program runs so far.
+-- Items of the kinds that the program takes so far are such as the program runs so far.
 use Rattle.std.proofs.Common.{◌≡◌, Bool, true, false, ◌&&◌, not, List, [], ◌∷◌, refl}
 use Rattle.std.specs.List.{All, AllByRecursion, list_all, AllPass}
 use Rattle.std.proofs.lemmas.List.Elements.{All-from_recursion}

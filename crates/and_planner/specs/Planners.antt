@@ -56,6 +56,6 @@ pub record KeepsOrder (old new : Planner) : Type 0 where
   pub packets : length new.packets ≤ new.frame
   pub written : new.written ≡ old.written
 
--- the fault of an item that is an entry of the first kinds, where nothing is held
+-- the fault of an item that is an entry of the kinds that the program takes so far, where nothing is held
 abbrev pub entry_fault : LogView → Entry → Option ItemFault
 entry_fault log entry = option_map (λ fault. faults.Entry fault) (fits (Some log.hosts) log.entries entry)

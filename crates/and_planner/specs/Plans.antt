@@ -6,7 +6,7 @@ use Rattle.and_events.specs.declared.plan.Scenario.{Scenario}
 use Rattle.and_planned.specs.Scenarios.{IsScenario, IsBuiltScenario}
 use Rattle.and_planner.specs.FirstItems.{is_first_item}
 
--- items of the first kinds whose numbers are in their ranges, settings that the program runs so far, and no more frames than captures have
+-- items that the program takes so far, whose numbers are in their ranges, settings that it runs so far, and no more frames than captures have
 pub record CanPlan (scenario : Scenario) (capture : Capture) : Type 0 where
   pub first : AllPass is_first_item scenario.items
   pub is : IsScenario scenario

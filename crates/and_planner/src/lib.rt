@@ -2,7 +2,7 @@
 //!
 //! [`plan`] makes the very plan that the definition gives: each entry that fits is a step, each other is refused by its number and its
 //! fault, each frame is a packet or is skipped for its reason, and the end is the last step. The plan is sound, and what the program
-//! runs so far. It is asked for scripts of the first kinds of items alone, of which none holds anything or moves a VM
+//! runs so far. It is asked only for scripts of items that the program takes so far, of which none holds anything or moves a VM
 //! ([`is_first_item`] tests one); want of memory is the only error.
 //!
 //! It stands on `and_planned` for the laws of plans, on `and_policy` for the log, on `and_wire` for the reading of frames, and on

@@ -5,7 +5,7 @@ use crate::packet::Tuple;
 /// An IPv4 prefix. One of length 0 holds all addresses; a length above 32 holds none.
 #[derive(Debug, Clone, Copy, PartialEq, Eq)]
 pub struct Prefix {
-    /// The address; bits past the length do not count.
+    /// The address, the number whose highest byte is the first on the wire; bits past the length do not count.
     pub address: u32,
     /// How many of the highest bits count.
     pub length: u8,
@@ -78,7 +78,8 @@ pub enum Entry {
     AddNet {
         net: u32,
     },
-    /// A VM with its Ethernet address, its IPv4 address and its host is added to a network.
+    /// A VM with its Ethernet address, its IPv4 address and its host is added to a network. Each address is the number whose
+    /// highest byte is the first on the wire.
     AddVm {
         vm: u32,
         net: u32,
@@ -153,7 +154,7 @@ pub enum EntryFault {
 pub struct Order {
     /// The source network.
     pub net: u32,
-    /// The destination address.
+    /// The destination address, the number whose highest byte is the first on the wire.
     pub ip: u32,
     /// The destination network.
     pub to_net: u32,

@@ -60,6 +60,7 @@ impl Log {
     }
 
     /// Whether the entry fits, or else the first check that it fails. It costs a few look-ups, however long the log is.
+    /// Only entries that add a network, a VM or a rule may be checked so far.
     pub fn check(&self, entry: &Entry) -> Result<(), EntryFault>
         requires first { is_first entry.now ≡ true }
         ensures ok { OnOk result (fits (Some self.now.hosts) self.now.entries entry.now ≡ None) }
@@ -133,7 +134,7 @@ impl Log {
         Ok(())
     }
 
-    /// Adds an entry that fits.
+    /// Adds an entry that fits. Only entries that add a network, a VM or a rule may be appended so far.
     ///
     /// # Errors
     ///

@@ -38,28 +38,29 @@ pub fn landing(log: &[Entry], net: u32, tuple: &Tuple) -> Landing
     sides::landing_in(log, net, tuple)
 }
 
-/// What the routes of the network say of a destination.
+/// What the routes of the network say of a destination. The address is the number whose highest byte is the first on the wire.
 pub fn route(log: &[Entry], net: u32, address: u32) -> Routing
     ensures { result ≡ routes.route log.now net address }
 {
     routes::route_in(log, net, address)
 }
 
-/// The live VM of the network with this address.
+/// The live VM of the network with this address, the number whose highest byte is the first on the wire.
 pub fn owner(log: &[Entry], net: u32, address: u32) -> Option<u32>
     ensures { result ≡ owners.owner log.now net address }
 {
     vms::owner(log, net, address)
 }
 
-/// The route of the network for the address, and where it leads the place of the address's owner.
+/// The route of the network for the address, and where it leads the place of the address's owner. The address is the number
+/// whose highest byte is the first on the wire.
 pub fn routed(log: &[Entry], net: u32, address: u32) -> Routed
     ensures { result ≡ owners.routed log.now net address }
 {
     sides::routed_in(log, net, address)
 }
 
-/// The place of the address's owner in the network itself.
+/// The place of the address's owner in the network itself. The address is the number whose highest byte is the first on the wire.
 pub fn located(log: &[Entry], net: u32, address: u32) -> Located
     ensures { result ≡ owners.located log.now net address }
 {
@@ -93,7 +94,8 @@ pub fn located_at(ops: &[Op], count: u32, net: u32, address: u32) -> Located
     sides::located_in(&ops[..count as usize], net, address)
 }
 
-/// The live order for this source network and address under the first `count` operations.
+/// The live order for this source network and address under the first `count` operations. The address is the number whose
+/// highest byte is the first on the wire.
 #[tactic(auto, using(crate::proofs::LoggedLemmas::entries_of_ops))]
 pub fn live(ops: &[Op], count: u32, net: u32, ip: u32) -> Option<Order>
     requires { count ≤ length ops.now }

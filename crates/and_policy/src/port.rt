@@ -22,6 +22,6 @@ pub struct UsageKey {
     pub host: u32,
     /// The source network.
     pub net: u32,
-    /// The destination address.
+    /// The destination address, the number whose highest byte is the first on the wire.
     pub ip: u32,
 }

@@ -45,8 +45,7 @@ impl Batch {
 /// The tables of a node: what the operations of a programme leave.
 ///
 /// Contracts see the list of operations that were applied, the oldest first, and the `origin`, a pair of numbers with
-/// which the tables were made: the host and the number of gateways, or 0 and 0 where they are a gateway's. What tables
-/// answer of packets is promised where the log entries among the operations are a log.
+/// which the tables were made: the host and the number of gateways, or 0 and 0 where they are a gateway's.
 pub trait Tables: Drop {
     ghost use Rattle.std.specs.Prelude.{ℕ, List};
     ghost use Rattle.and_policy.specs.declared.entry.Op.{Op};

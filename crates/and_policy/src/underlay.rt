@@ -16,7 +16,7 @@ pub fn host_address(host: u32) -> u32
 }
 
 /// The underlay address of a gateway for packets to be routed, which is the source of all its sends too: 172.17.g.1 of
-/// gateway g.
+/// gateway g, as a number whose highest byte is the first on the wire.
 pub fn route_address(gateway: u32) -> u32
     requires { gateway < 65536 }
     ensures { result ≡ outer.route_address gateway }
@@ -24,7 +24,8 @@ pub fn route_address(gateway: u32) -> u32
     0xac11_0001 + 256 * gateway
 }
 
-/// The underlay address of a gateway for packets to be redirected: 172.17.g.2 of gateway g.
+/// The underlay address of a gateway for packets to be redirected: 172.17.g.2 of gateway g, as a number whose highest byte
+/// is the first on the wire.
 pub fn redirect_address(gateway: u32) -> u32
     requires { gateway < 65536 }
     ensures { result ≡ outer.redirect_address gateway }

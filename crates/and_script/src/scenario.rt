@@ -22,7 +22,7 @@ use and_policy::NoMemory;
 use serde_json::Value;
 use std::alloc::Global;
 
-/// The JSON value of the bytes.
+/// The JSON value of the bytes. An error where they are not read as JSON, and where memory is wanting.
 pub fn read_value(alloc: Global, bytes: &[u8]) -> Result<Value, ScenarioFault>
     ensures found { IfOk result (λ v. grammar.IsJson bytes.now (view v)) }
     ensures refused { IfErr result (TellsOf bytes.now) }

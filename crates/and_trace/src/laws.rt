@@ -11,7 +11,8 @@ pub fn trace_names_one_history()
     ensures { (g h : List Event) → IsSpelled g → IsSpelled h → trace g ≡ trace h → g ≡ h }
 {}
 
-/// Each event of a run has a spelling: who acts on a packet is a worker, a coprocessor or a gateway's worker.
+/// Each event of a run that names an actor names one that takes packets: a worker, a coprocessor or a gateway's worker. That
+/// the numbers of the lines fit is the clause `spelled` of `print_trace`.
 #[tactic(auto, using(crate::proofs::Runs::runs_have_spellings))]
 pub fn runs_have_spellings()
     ensures { (plan : Plan) (h : List Event) → Run plan h → HaveSpellings h }

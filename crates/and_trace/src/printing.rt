@@ -456,7 +456,9 @@ fn put_line(event: &Event, text: &mut Vec<u8>) -> Result<(), NoMemory>
 
 /// The trace of the lines, oldest first: the first line is `andromeda trace 1`, and each event is a line of
 /// words, one space between two, numbers in decimal. Each line is to have a spelling, as the lines of a run have:
-/// an actor that takes no packets has no word of its own.
+/// an actor that takes no packets has no word of its own. The clause `spelled` says this: the numbers of the lines
+/// are those of 32 bits, so that the events have a spelling as soon as their actors take packets. Want of memory is
+/// the only error.
 pub fn print_trace(alloc: Global, lines: &[Line]) -> Result<Vec<u8>, NoMemory>
     ensures text { IfOk result (λ t. t.items ≡ spells.trace (past lines.now)) }
     ensures spelled { IfOk result (λ t. HaveSpellings (past lines.now) → IsSpelled (past lines.now)) }

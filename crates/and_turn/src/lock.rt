@@ -64,7 +64,8 @@ impl<S: Tale> TurnLock<S> {
         }
     }
 
-    /// Waits for the turn, and gives the value. Seats take turns in the order in which they asked.
+    /// Waits for the turn, and gives the value. Seats take turns in the order in which they asked, by the tickets that they draw;
+    /// no clause says so.
     ///
     /// The value begins with what the seat had seen, and every line of the seat's number was already seen. For the first
     /// seat the same holds of each number that it joined.

@@ -73,7 +73,7 @@ fn is_fragment(frame: &[u8]) -> bool
     flags / 0x2000 % 2 == 1 || flags % 0x2000 > 0
 }
 
-// Whether the packet is no fragment of TCP or UDP.
+// Whether the packet is TCP or UDP and no fragment.
 fn has_ports(frame: &[u8]) -> bool
     requires { 34 ≤ length frame.now }
     ensures { result ≡ frames.has_ports frame.now }

@@ -1,4 +1,4 @@
--- A scenario whose settings are plain and whose items are of the first kinds can be planned.
+-- A scenario whose settings are plain and whose items are of the kinds that the program takes so far can be planned.
 use Rattle.std.proofs.Common.{◌≡◌, ◌≤◌, true, length}
 use Rattle.std.specs.List.{AllPass, list_all}
 use Rattle.std.proofs.lemmas.List.Sums.{AllPass-from_list_all}

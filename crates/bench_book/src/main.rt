@@ -66,7 +66,7 @@ fn is_plain(settings: &Settings) -> bool
     *settings == plain
 }
 
-/// Whether all items are of the first kinds.
+/// Whether all items are of the kinds that the program takes so far.
 fn are_first(items: &[Item]) -> bool
     ensures { result ≡ list_all is_first_item items.now }
 {

@@ -1,5 +1,5 @@
 #!/usr/bin/env python3
-"""Writes a scenario of 65,536 items of every kind for `run.sh`. Usage: make_script.py FILE"""
+"""Writes a scenario of 65,536 items of twelve of the fourteen kinds for `run.sh`. Usage: make_script.py FILE"""
 import json
 import sys
 

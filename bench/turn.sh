@@ -4,6 +4,7 @@
 # `rt ci` leaves in crates/bench_turn/out.
 set -u
 cd "$(dirname "$0")/.." || exit 1
+. bench/best.sh
 lock=crates/bench_turn/out/bench_turn
 turns=5000000
 rivals=250000
@@ -16,28 +17,22 @@ for yardstick in mutex ticket; do
   cc -O2 -pthread -o "$work/$yardstick" "bench/$yardstick.c" || exit 1
 done
 
-# The nanoseconds a turn of: PREFIX.. PROGRAM THREADS TURNS. It fails where a run fails, counts wrongly or takes a minute.
+# The nanoseconds a turn of: PREFIX.. PROGRAM THREADS TURNS, the best of three runs. It fails where a run fails, counts wrongly or takes a minute.
 turn_ns() {
-  local total=$(( ${*: -2:1} * ${*: -1} )) best='' start spent
-  for _ in 1 2 3; do
-    start=$(date +%s%N)
-    [ "$(timeout 60 "$@")" = "$total turns" ] || { echo "failed: $*" >&2; return 1; }
-    spent=$(( $(date +%s%N) - start ))
-    [ -n "$best" ] && [ "$best" -le "$spent" ] || best=$spent
-  done
-  awk -v t="$best" -v n="$total" 'BEGIN { printf "%.1f", t / n }'
+  local total=$((${*: -2:1} * ${*: -1}))
+  best 3 timeout 60 "$@" || return 1
+  [ "$(cat "$work/out")" = "$total turns" ] || { echo "failed: $*" >&2; return 1; }
+  over "$best_ns" "$total" 1
 }
-
-ratio() { awk -v a="$1" -v b="$2" 'BEGIN { printf "%.2f", a / b }'; }
 
 mutex=$(turn_ns "$work/mutex" 1 "$turns") || exit 1
 alone=$(turn_ns "$lock" 1 "$turns") || exit 1
-echo "alone: pthread mutex $mutex ns a turn, turn lock $alone ns, ratio $(ratio "$alone" "$mutex")"
+echo "alone: pthread mutex $mutex ns a turn, turn lock $alone ns, ratio $(over "$alone" "$mutex")"
 
 command -v taskset >/dev/null || { echo "skipped: no taskset"; exit 0; }
 ticket=$(turn_ns taskset -c 0,1 "$work/ticket" 4 "$rivals") || exit 1
 four=$(turn_ns taskset -c 0,1 "$lock" 4 "$rivals") || exit 1
-echo "four threads on two cores: ticket lock in C that yields $ticket ns a turn, turn lock $four ns, ratio $(ratio "$four" "$ticket")"
+echo "four threads on two cores: ticket lock in C that yields $ticket ns a turn, turn lock $four ns, ratio $(over "$four" "$ticket")"
 start=$(date +%s%N)
 timeout 10 taskset -c 0,1 "$work/ticket" 4 "$many" spin >/dev/null && ended="" || ended="not done, at least "
 spent=$(( $(date +%s%N) - start ))

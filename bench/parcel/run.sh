@@ -3,6 +3,7 @@
 # sums of what was read, which must agree. It needs the program that `rt run` or `rt ci` leaves in crates/bench_parcel/out.
 set -u
 cd "$(dirname "$0")/../.." || exit 1
+. bench/best.sh
 ours=crates/bench_parcel/out/bench_parcel
 rounds=10000000
 command -v cc >/dev/null || { echo "skipped: no cc"; exit 0; }
@@ -11,20 +12,9 @@ work=$(mktemp -d) || exit 1
 trap 'rm -rf "$work"' EXIT
 cc -O2 -o "$work/plain" bench/parcel/plain.c || exit 1
 
-# The nanoseconds a round, the best of five runs.
-round_ns() {
-  local best='' start spent
-  for _ in 1 2 3 4 5; do
-    start=$(date +%s%N)
-    "$1" "$rounds" >"$work/sum" || { echo "failed: $1" >&2; return 1; }
-    spent=$(( $(date +%s%N) - start ))
-    [ -n "$best" ] && [ "$best" -le "$spent" ] || best=$spent
-  done
-  awk -v t="$best" -v n="$rounds" 'BEGIN { printf "%.1f", t / n }'
-}
-
-c=$(round_ns "$work/plain") || exit 1
-mv "$work/sum" "$work/sum-c"
-rattle=$(round_ns "$ours") || exit 1
-cmp -s "$work/sum" "$work/sum-c" || { echo "failed: the sums differ" >&2; exit 1; }
-echo "wrap and read back 1400 bytes: plain C $c ns a round, parcel $rattle ns, ratio $(awk -v a="$rattle" -v b="$c" 'BEGIN { printf "%.2f", a / b }')"
+best 5 "$work/plain" "$rounds" || exit 1
+c=$best_ns
+mv "$work/out" "$work/sum"
+best 5 "$ours" "$rounds" || exit 1
+cmp -s "$work/out" "$work/sum" || { echo "failed: the sums differ" >&2; exit 1; }
+echo "wrap and read back 1400 bytes: plain C $(over "$c" $rounds 1) ns a round, parcel $(over "$best_ns" $rounds 1) ns, ratio $(over "$best_ns" "$c")"

@@ -1,10 +1,11 @@
 #!/usr/bin/env bash
 # What a replay costs, in one run: 1,000, 10,000 and 100,000 frames of 100 bytes over 8 hosts, 40 VMs and 60 rules in 4 networks, in frames and events a
 # second and peak memory, and the reading of the largest capture (a scenario without VMs, so that each frame is read and skipped) beside
-# the plainest C. It needs the program that `rt ci` or `./demo` leaves in
+# the plainest C. It needs the program that `rt run` or `rt ci` leaves in
 # crates/andromeda/out.
 set -u
 cd "$(dirname "$0")/../.." || exit 1
+. bench/best.sh
 program=crates/andromeda/out/andromeda
 command -v python3 >/dev/null || { echo "skipped: no python3"; exit 0; }
 command -v cc >/dev/null || { echo "skipped: no cc"; exit 0; }
@@ -15,30 +16,16 @@ python3 bench/replay/make_input.py "$work" 1000 10000 100000 || exit 1
 cc -O2 -o "$work/read" bench/replay/read.c || exit 1
 
 # The milliseconds of the best of five runs.
-ms() {
-  local best='' start spent
-  for _ in 1 2 3 4 5; do
-    start=$(date +%s%N)
-    "$@" >"$work/out" || { echo "failed: $*" >&2; return 1; }
-    spent=$(( ($(date +%s%N) - start) / 1000 ))
-    [ -n "$best" ] && [ "$best" -le "$spent" ] || best=$spent
-  done
-  awk -v t="$best" 'BEGIN { printf "%.2f", t / 1000 }'
-}
+ms() { best 5 "$@" && over "$best_ns" 1000000; }
 
 for frames in 1000 10000 100000; do
   spent=$(ms "$program" replay "$work/scenario.json" "$work/$frames.pcap" "$work/x") || exit 1
   events=$(($(wc -l <"$work/x.trace") - 1))
   awk -v t="$spent" -v n="$frames" -v e="$events" 'BEGIN {
     printf "%d frames, %d events: %s ms, %.3f us a frame, %.0f frames and %.0f events a second", n, e, t, 1000 * t / n, 1000 * n / t, 1000 * e / t }'
-  if [ -x /usr/bin/time ]; then
-    /usr/bin/time -f ", peak memory %M KB" "$program" replay "$work/scenario.json" "$work/$frames.pcap" "$work/x" 2>&1 >/dev/null
-  else
-    python3 -c 'import resource, subprocess, sys
-subprocess.run(sys.argv[1:], stdout=subprocess.DEVNULL, check=True)
-print(", peak memory %d KB" % resource.getrusage(resource.RUSAGE_CHILDREN).ru_maxrss)' "$program" replay "$work/scenario.json" "$work/$frames.pcap" "$work/x"
-  fi
+  peak=$(peak_kb "$program" replay "$work/scenario.json" "$work/$frames.pcap" "$work/x") || exit 1
+  echo ", peak memory ${peak:-unknown} KB"
 done
 ours=$(ms "$program" replay "$work/no-vms.json" "$work/100000.pcap" "$work/x") || exit 1
 c=$(ms "$work/read" "$work/100000.pcap") || exit 1
-echo "reading 100000 frames of 100 bytes: $ours ms, plain C $c ms, ratio $(awk -v a="$ours" -v b="$c" 'BEGIN { printf "%.2f", a / b }')"
+echo "reading 100000 frames of 100 bytes: $ours ms, plain C $c ms, ratio $(over "$ours" "$c")"

@@ -1,0 +1,36 @@
+#!/usr/bin/env bash
+# What the benches share, to be sourced: the best of several runs of a command, its peak memory, and two numbers' ratio. They write into the folder $work.
+export LC_ALL=C
+
+# best RUNS COMMAND..: runs the command so often, and sets best_ns to its least time by the clock and best_cpu_ms to its least processor time (user
+# and system). What it wrote last is in $work/out; where it fails, so does this.
+best() {
+  local runs=$1 start spent user system line TIMEFORMAT='%3U %3S'
+  shift
+  best_ns='' best_cpu_ms=''
+  while ((runs-- > 0)); do
+    start=$(date +%s%N)
+    { time "$@" >"$work/out" 2>"$work/said"; } 2>"$work/time" || { echo "failed: $*: $(head -n 1 "$work/said")" >&2; return 1; }
+    spent=$(($(date +%s%N) - start))
+    line=$(tail -n 1 "$work/time")
+    read -r user system <<<"$line"
+    user=$((10#${user/./} + 10#${system/./}))
+    [ -n "$best_ns" ] && [ "$best_ns" -le "$spent" ] || best_ns=$spent
+    [ -n "$best_cpu_ms" ] && [ "$best_cpu_ms" -le "$user" ] || best_cpu_ms=$user
+  done
+}
+
+# peak_kb COMMAND..: the kilobytes of memory that it held at most, as the kernel counts them (by python3 never less than python3 itself holds, some
+# 14,000); nothing where neither tool is there.
+peak_kb() {
+  if [ -x /usr/bin/time ]; then
+    /usr/bin/time -f '%M' -o "$work/peak" "$@" >/dev/null && tail -n 1 "$work/peak"
+  elif command -v python3 >/dev/null; then
+    python3 -c 'import resource, subprocess, sys
+subprocess.run(sys.argv[1:], check=True, stdout=subprocess.DEVNULL)
+print(resource.getrusage(resource.RUSAGE_CHILDREN).ru_maxrss)' "$@"
+  fi
+}
+
+# over A B [DIGITS]: A / B, with so many digits after the point (two, where none are named).
+over() { awk -v a="$1" -v b="$2" -v d="${3:-2}" 'BEGIN { printf "%.*f", d, a / b }'; }

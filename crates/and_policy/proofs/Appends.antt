@@ -1,11 +1,16 @@
 -- What one entry more at the end adds to what a prefix has.
-use Rattle.std.proofs.Common.{◌≡◌, ℕ, Bool, true, false, ◌&&◌, ◌||◌, not, List, [], ◌∷◌, ◌++◌, refl, ap, ◌∙◌, append-nil}
+use Rattle.std.proofs.Common.{◌≡◌, ℕ, Bool, true, false, ◌&&◌, ◌||◌, not, List, [], ◌∷◌, ◌++◌, Option, Some, None, refl, ap, sym, ◌∙◌, append-nil, inl, inr}
 use Rattle.std.specs.Prelude.{if◌then◌else◌, ◌==◌}
-use Rattle.std.specs.List.{list_any}
+use Rattle.std.specs.List.{list_any, filter}
+use Rattle.std.proofs.lemmas.Bool.{cases_eq, eq-eqb, ne_eqb}
+use Rattle.std.proofs.lemmas.List.Folds.{list_any-append}
 use Rattle.and_policy.specs.declared.entry.Entry.{Entry}
-use Rattle.and_policy.specs.declared.entry.Entry.TheVariants.{AddNet, AddVm, AddRule}
+use Rattle.and_policy.specs.declared.entry.Entry.TheVariants.{AddNet, AddVm, RemoveVm, AddRule, DelRule, AddRoute, DelRoute}
 use Rattle.and_policy.specs.declared.entry.Rule.{Rule}
-use Rattle.and_policy.specs.Logs.{nets, added, vms, removes, rules, deletes_rule}
+use Rattle.and_policy.specs.declared.entry.Route.{Route}
+use Rattle.and_policy.specs.Logs.{Vm, nets, added, vms, removes, rules, deletes_rule, routes, deletes_route}
+use Rattle.and_policy.specs.Numbered.{less}
+use Rattle.and_policy.specs.Owners.{place, host_by, or_else}
 
 -- a choice about the first element, before a list and after
 if_cons : {A : Type 0} (b : Bool) (x : A) (xs ys : List A) → (if b then x ∷ (xs ++ ys) else xs ++ ys) ≡ (if b then x ∷ xs else xs) ++ ys
@@ -74,3 +79,69 @@ rules-rule k net rule q = rules-append k (AddRule net rule) q (λ _ _. refl) ∙
     alone : (b : Bool) → (if b && true then rule ∷ [] else []) ≡ (if b then rule ∷ [] else [])
     alone true = refl
     alone false = refl
+
+-- ---- entries that take away
+
+or_else_assoc : (a b c : Option ℕ) → or_else (or_else a b) c ≡ or_else a (or_else b c)
+or_else_assoc (Some x) b c = refl
+or_else_assoc None b c = refl
+
+or_else_none : (a : Option ℕ) → or_else a None ≡ a
+or_else_none (Some x) = refl
+or_else_none None = refl
+
+pub place-append : (k : List Entry) (e : Entry) (vm : ℕ) → place (k ++ e ∷ []) vm ≡ or_else (host_by vm e) (place k vm)
+place-append [] e vm = sym (or_else_none (host_by vm e))
+place-append (x ∷ k) e vm = ap (λ a. or_else a (host_by vm x)) (place-append k e vm) ∙ or_else_assoc (host_by vm e) (place k vm) (host_by vm x)
+
+same_eqb : (m n : ℕ) → (m == n) ≡ (n == m)
+same_eqb m n = elim (cases_eq m n) as (λ _. (m == n) ≡ (n == m)) [ inl e ↦ rw (eq-eqb m n e, eq-eqb n m (sym e)) refl | inr e ↦ rw (ne_eqb m n e, ne_eqb n m (λ h. e (sym h))) refl ]
+
+without : (a b : Bool) (x : Vm) (vm : ℕ) (xs ys : List Vm) → (x.number == vm) ≡ b → ys ≡ filter (λ v. not (v.number == vm)) xs
+    → (if a || (b || false) then ys else x ∷ ys) ≡ filter (λ v. not (v.number == vm)) (if a then xs else x ∷ xs)
+without true b x vm xs ys e h = h
+without false true x vm xs ys e h = rw e h
+without false false x vm xs ys e h = rw e (ap (λ zs. x ∷ zs) h)
+
+pub vms-removed : (k : List Entry) (vm : ℕ) → vms (k ++ RemoveVm vm ∷ []) ≡ filter (λ v. not (v.number == vm)) (vms k)
+vms-removed [] vm = refl
+vms-removed (AddVm v net mac ip host ∷ k) vm =
+    rw (list_any-append (removes v) k (RemoveVm vm ∷ []))
+    (without (list_any (removes v) k) (vm == v) (record { number = v; net = net; mac = mac; ip = ip; host = host }) vm (vms k) (vms (k ++ RemoveVm vm ∷ [])) (same_eqb v vm) (vms-removed k vm))
+vms-removed (_ ∷ k) vm = vms-removed k vm
+
+fewer : {A : Type 0} (number : A → ℕ) (here gone same b : Bool) (x : A) (n : ℕ) (xs ys : List A) → (number x == n) ≡ b → ys ≡ less number same n xs
+    → (if here && not (gone || ((same && b) || false)) then x ∷ ys else ys) ≡ less number same n (if here && not gone then x ∷ xs else xs)
+fewer number false gone same b x n xs ys e h = h
+fewer number true true same b x n xs ys e h = h
+fewer number true false false b x n xs ys e h = ap (λ zs. x ∷ zs) h
+fewer number true false true true x n xs ys e h = rw e h
+fewer number true false true false x n xs ys e h = rw e (ap (λ zs. x ∷ zs) h)
+
+pub rules-removed : (k : List Entry) (n m net : ℕ) → rules (k ++ DelRule n m ∷ []) net ≡ less (λ r. r.number) (n == net) m (rules k net)
+rules-removed [] n m net = empty (n == net)
+  where
+    empty : (b : Bool) → [] ≡ less (λ (r : Rule). r.number) b m []
+    empty true = refl
+    empty false = refl
+rules-removed (AddRule a rule ∷ k) n m net =
+    rw (list_any-append (deletes_rule net rule.number) k (DelRule n m ∷ []))
+    (fewer (λ (r : Rule). r.number) (a == net) (list_any (deletes_rule net rule.number) k) (n == net) (m == rule.number) rule m (rules k net) (rules (k ++ DelRule n m ∷ []) net) (same_eqb rule.number m) (rules-removed k n m net))
+rules-removed (_ ∷ k) n m net = rules-removed k n m net
+
+pub routes-append : (k : List Entry) (e : Entry) (net : ℕ) → ((n m : ℕ) → deletes_route n m e ≡ false) → routes (k ++ e ∷ []) net ≡ routes k net ++ routes (e ∷ []) net
+routes-append [] e net h = refl
+routes-append (AddRoute n route ∷ k) e net h =
+    rw (any-append (deletes_route net route.number) k e (h net route.number), routes-append k e net h) (if_cons ((n == net) && not (list_any (deletes_route net route.number) k)) route (routes k net) (routes (e ∷ []) net))
+routes-append (_ ∷ k) e net h = routes-append k e net h
+
+pub routes-removed : (k : List Entry) (n m net : ℕ) → routes (k ++ DelRoute n m ∷ []) net ≡ less (λ r. r.number) (n == net) m (routes k net)
+routes-removed [] n m net = empty (n == net)
+  where
+    empty : (b : Bool) → [] ≡ less (λ (r : Route). r.number) b m []
+    empty true = refl
+    empty false = refl
+routes-removed (AddRoute a route ∷ k) n m net =
+    rw (list_any-append (deletes_route net route.number) k (DelRoute n m ∷ []))
+    (fewer (λ (r : Route). r.number) (a == net) (list_any (deletes_route net route.number) k) (n == net) (m == route.number) route m (routes k net) (routes (k ++ DelRoute n m ∷ []) net) (same_eqb route.number m) (routes-removed k n m net))
+routes-removed (_ ∷ k) n m net = routes-removed k n m net

@@ -1,7 +1,10 @@
 pub mod Appends
-pub mod Indexing
+pub mod Numbering
+pub mod Netting
 pub mod Logging
 pub mod LoggedLemmas
 pub mod Deciding
 pub mod Ended
 pub mod Touched
+pub mod Unique
+pub mod Registering

@@ -17,3 +17,6 @@ pub mod Logged
 pub mod Homes
 pub mod Deletions
 pub mod Steps
+pub mod Once
+pub mod Registers
+pub mod Numbered

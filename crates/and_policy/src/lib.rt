@@ -10,9 +10,12 @@ mod entry;
 mod index;
 mod log;
 mod memory;
+mod numbered;
 mod packet;
 pub mod plain;
 mod port;
+mod put;
+mod register;
 mod tables;
 mod underlay;
 
@@ -25,6 +28,7 @@ pub use log::Log;
 pub use memory::NoMemory;
 pub use packet::{Fields, Skip, Tuple};
 pub use port::{Port, UsageKey};
+pub use register::{Register, Residence, Seat};
 pub use tables::{Batch, Tables};
 pub use underlay::{flow_hash, host_address, redirect_address, route_address};
 

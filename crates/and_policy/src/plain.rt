@@ -22,7 +22,7 @@ mod vms;
 use crate::decision::{Exit, Landing, Leaving, Located, Routed, Routing};
 use crate::entry::{Entry, Op, Order};
 use crate::packet::Tuple;
-pub use rules::verdict;
+pub use rules::{is_side, matches, verdict, verdict_by};
 
 /// What the log says of a packet that leaves this VM.
 pub fn egress(log: &[Entry], vm: u32, tuple: &Tuple) -> Exit

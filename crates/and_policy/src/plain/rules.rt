@@ -41,8 +41,9 @@ fn is_protocol(wanted: Option<u8>, protocol: u8) -> bool
     }
 }
 
-// Whether the rule matches the tuple, whatever its side is.
-fn matches(tuple: &Tuple, rule: &Rule) -> bool
+/// Whether the rule matches the tuple, whatever its side is: the protocol where it names one, both prefixes, and both ranges of ports, whose
+/// ends count. Ports are compared whatever the protocol is.
+pub fn matches(tuple: &Tuple, rule: &Rule) -> bool
     ensures { result ≡ matching.matches tuple.now rule.now }
 {
     is_protocol(rule.protocol, tuple.protocol)
@@ -56,8 +57,8 @@ fn matches(tuple: &Tuple, rule: &Rule) -> bool
         )
 }
 
-// Whether the sides are the same.
-fn is_side(a: Side, b: Side) -> bool
+/// Whether the sides are the same.
+pub fn is_side(a: Side, b: Side) -> bool
     ensures { result ≡ matching.is_side a b }
 {
     match (a, b) {
@@ -105,8 +106,8 @@ fn verdict_step(
     }
 }
 
-// What a side says where this rule decides.
-fn verdict_by(side: Side, rule: Option<Rule>) -> Verdict
+/// What a side says where this rule decides; without one a packet may leave and may not enter.
+pub fn verdict_by(side: Side, rule: Option<Rule>) -> Verdict
     ensures { result ≡ spec.verdict_by side rule }
 {
     match rule {

@@ -1,6 +1,6 @@
 #!/usr/bin/env python3
 """Writes an underlay capture (pcap, link type 101: raw IP) of the two outer packets of the two-host test of
-`and_parcel`. The bytes are those of the test's source, which the test shows to be the parcel's.
+parcels. The bytes are those of the test's source, which the test shows to be the parcel's.
 
 Use: underlay_capture.py TESTS.rt OUT.pcap
 """

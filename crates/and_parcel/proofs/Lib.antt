@@ -1,3 +1,3 @@
-pub mod Sums
+pub mod Covered
 pub mod Headers
 pub mod Packets

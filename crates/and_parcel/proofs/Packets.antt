@@ -1,18 +1,20 @@
 -- What was wrapped is read again.
-use Rattle.std.proofs.Common.{◌≡◌, ℕ, ◌+◌, ◌-◌, ◌/◌, ◌%◌, ◌<◌, ◌≤◌, true, false, eqb, ltb, List, [], ◌∷◌, length, take, Option, None, Ok, refl, sym, ap, ◌∙◌, arith, eq-eqb}
-use Rattle.std.specs.Prelude.{not, slice_index}
+use Rattle.std.proofs.Common.{◌≡◌, ℕ, ◌+◌, ◌-◌, ◌/◌, ◌%◌, ◌<◌, ◌≤◌, Bool, true, false, ◌&&◌, inl, inr, eqb, ltb, List, [], ◌∷◌, length, take, Option, None, Ok, Err, refl, sym, ap, ◌∙◌, arith, eq-eqb}
+use Rattle.std.specs.Prelude.{not, slice_index, Result}
 use Rattle.std.specs.Int.{byte_at}
-use Rattle.std.proofs.lemmas.Bool.{le-ltb}
+use Rattle.std.proofs.lemmas.Bool.{cases_Bool, le-ltb, ne_eqb}
 use Rattle.byteorder.specs.Numbers.{big_number-reads_back}
 use Rattle.and_policy.specs.Checks.{first_failing, unless}
 use Rattle.and_policy.specs.Numbers.{number_from, bytes_of}
-use Rattle.and_policy.specs.Outer.{Envelope, words_sum, ones_sum, ip_header, outer_packet}
+use Rattle.and_policy.specs.Outer.{Envelope, words_sum, ones_sum, ip_header, outer_packet, udp_covered}
 use Rattle.and_parcel.specs.declared.outer.Outer.{Outer}
 use Rattle.and_parcel.specs.declared.outer.WrapFault.{WrapFault}
 use Rattle.and_parcel.specs.Parcels.{envelope, IsInRange}
-use Rattle.and_parcel.specs.Reading.{checksum_field, outer_checks, said, reading}
-use Rattle.and_parcel.proofs.Sums.{with_checksum}
-use Rattle.and_parcel.proofs.Headers.{pieces, packet_is}
+use Rattle.and_parcel.specs.Reading.{checksum_field, covered, outer_checks, said, reading}
+use Rattle.and_lanes.proofs.Sums.{with_checksum}
+use Rattle.and_parcel.specs.Sealing.{sealed, checksummed, with_sum}
+use Rattle.and_parcel.proofs.Covered.{sealed_sum}
+use Rattle.and_parcel.proofs.Headers.{pieces, sent_over, open_is, sealed_is}
 
 -- bytes that pass every check
 record PassesChecks (bytes : List ℕ) : Type 0 where
@@ -23,11 +25,11 @@ record PassesChecks (bytes : List ℕ) : Type 0 where
   udp_len : eqb (number_from 24 2 bytes) (length bytes - 20) ≡ true
   protocol : eqb (slice_index bytes 9) 17 ≡ true
   port : eqb (number_from 22 2 bytes) 4789 ≡ true
-  unsealed : eqb (checksum_field bytes) 0 ≡ true
+  checksum : not (eqb (checksum_field bytes) 0) && not (eqb (ones_sum (covered bytes)) 0xffff) ≡ false
   flag : eqb (slice_index bytes 28 / 8 % 2) 0 ≡ false
 
 all_pass : (bytes : List ℕ) → PassesChecks bytes → first_failing (outer_checks bytes) ≡ None
-all_pass bytes p = rw (p.long, p.version, p.header, p.total_len, p.udp_len, p.protocol, p.port, p.unsealed, p.flag) refl
+all_pass bytes p = rw (p.long, p.version, p.header, p.total_len, p.udp_len, p.protocol, p.port, p.checksum, p.flag) refl
 
 accepted : (bytes : List ℕ) (o : Outer) → PassesChecks bytes → said bytes ≡ o → reading bytes ≡ Ok o
 unfolding reading
@@ -65,28 +67,83 @@ same_said : (bytes : List ℕ) (o : Outer) → number_from 12 4 bytes ≡ o.sour
     → number_from 20 2 bytes ≡ o.source_port → not (eqb (checksum_field bytes) 0) ≡ o.sealed → said bytes ≡ o
 same_said bytes o a b c d e f = rw (a, b, c, d, e, f) refl
 
-pub reads : (o : Outer) (n sum : ℕ) (frame : List ℕ) → IsInRange o → o.sealed ≡ false → n ≡ length frame → length frame ≤ 65499 → sum ≡ 65535 - ones_sum (ip_header (envelope o) n 0)
-    → reading (pieces (envelope o) n sum 0 frame) ≡ Ok o
-reads o n sum frame range unsealed len short checksum =
-    let bytes : List ℕ = pieces (envelope o) n sum 0 frame in
+pub reads : (o : Outer) (n sum u : ℕ) (frame : List ℕ) → IsInRange o → n ≡ length frame → length frame ≤ 65499 → sum ≡ 65535 - ones_sum (ip_header (envelope o) n 0)
+    → not (eqb (checksum_field (pieces (envelope o) n sum u frame)) 0) && not (eqb (ones_sum (covered (pieces (envelope o) n sum u frame))) 0xffff) ≡ false
+    → not (eqb (checksum_field (pieces (envelope o) n sum u frame)) 0) ≡ o.sealed
+    → reading (pieces (envelope o) n sum u frame) ≡ Ok o
+reads o n sum u frame range len short header right is =
+    let bytes : List ℕ = pieces (envelope o) n sum u frame in
     let total : number_from 0 2 (bytes_of 2 (36 + n)) ≡ 36 + n = number_2 (36 + n) (omega arith) in
     let udp : number_from 0 2 (bytes_of 2 (16 + n)) ≡ 16 + n = number_2 (16 + n) (omega arith) in
-    let whole : 36 + n ≡ length (pieces (envelope o) n sum 0 frame) = omega arith in
-    let behind : 16 + n ≡ length (pieces (envelope o) n sum 0 frame) - 20 = omega arith in
+    let whole : 36 + n ≡ length (pieces (envelope o) n sum u frame) = omega arith in
+    let behind : 16 + n ≡ length (pieces (envelope o) n sum u frame) - 20 = omega arith in
     accepted bytes o (record {
       long = le-ltb _ _ (omega arith);
       version = refl;
-      header = eq-eqb _ _ (good_header (envelope o) n sum checksum);
+      header = eq-eqb _ _ (good_header (envelope o) n sum header);
       total_len = eq-eqb _ _ (total ∙ whole);
       udp_len = eq-eqb _ _ (udp ∙ behind);
       protocol = refl;
       port = refl;
-      unsealed = refl;
+      checksum = right;
       flag = refl;
     }) (same_said bytes o (big_number-reads_back 4 o.source [] range.source) (big_number-reads_back 4 o.destination [] range.destination) (byte_again o.ttl range.ttl)
-    (big_number-reads_back 3 o.vni [] range.vni) (big_number-reads_back 2 o.source_port [] range.source_port) (sym unsealed))
+    (big_number-reads_back 3 o.vni [] range.vni) (big_number-reads_back 2 o.source_port [] range.source_port) is)
 
-pub wrapped_reads : (o : Outer) (frame : List ℕ) → IsInRange o → o.sealed ≡ false → length frame ≤ 65499 → reading (outer_packet (envelope o) frame) ≡ Ok o
-wrapped_reads o frame range unsealed short =
-    let sum : ℕ = 65535 - ones_sum (ip_header (envelope o) (length frame) 0) in
-    ap reading (sym (packet_is (envelope o) (length frame) sum frame unsealed refl refl)) ∙ reads o (length frame) sum frame range unsealed refl short refl
+open_reads : (o : Outer) (frame : List ℕ) → IsInRange o → length frame ≤ 65499 → o.sealed ≡ false → reading (outer_packet (envelope o) frame) ≡ Ok o
+open_reads o frame range short is =
+    ap reading (sym (open_is (envelope o) frame is))
+    ∙ reads o (length frame) (65535 - ones_sum (ip_header (envelope o) (length frame) 0)) 0 frame range refl short refl refl (sym is)
+
+sealed_reads : (o : Outer) (frame : List ℕ) → IsInRange o → length frame ≤ 65499 → o.sealed ≡ true → reading (outer_packet (envelope o) frame) ≡ Ok o
+sealed_reads o frame range short is =
+    let n = length frame in
+    let sum = 65535 - ones_sum (ip_header (envelope o) n 0) in
+    let u = sent_over (udp_covered (envelope o) frame) in
+    let good = sealed_sum (envelope o) n sum u frame refl in
+    let field : checksum_field (pieces (envelope o) n sum u frame) ≡ u = number_2 u good.2 in
+    let some : eqb (checksum_field (pieces (envelope o) n sum u frame)) 0 ≡ false = ne_eqb _ _ (λ e. nothing u (sym field ∙ e) good.1) in
+    ap reading (sym (sealed_is (envelope o) frame is))
+    ∙ reads o n sum u frame range refl short refl
+    (rw (eq-eqb _ _ good.0) (and_false _))
+    (rw some (sym is))
+  where
+    nothing : (u : ℕ) → u ≡ 0 → 0 < u → ⊥
+    nothing u e lt = omega (arith, e)
+
+    and_false : (b : Bool) → b && false ≡ false
+    and_false true = refl
+    and_false false = refl
+
+pub wrapped_reads : (o : Outer) (frame : List ℕ) → IsInRange o → length frame ≤ 65499 → reading (outer_packet (envelope o) frame) ≡ Ok o
+wrapped_reads o frame range short =
+    elim (cases_Bool o.sealed) as (λ _. reading (outer_packet (envelope o) frame) ≡ Ok o) [
+      | inl is ↦ sealed_reads o frame range short is
+      | inr is ↦ open_reads o frame range short is
+    ]
+
+-- ---- sealing what is there
+
+pub sealed_again : (o : Outer) (frame : List ℕ) → with_sum (sent_over (udp_covered (envelope o) frame)) (outer_packet (envelope o) frame) ≡ outer_packet (envelope (sealed o)) frame
+sealed_again o frame = sealed_is (envelope (sealed o)) frame refl
+
+-- the parcel's bytes after sealing
+pub sealed_bytes : (o : Outer) (frame items : List ℕ) → items ≡ outer_packet (envelope o) frame → checksummed items ≡ outer_packet (envelope (sealed o)) frame
+sealed_bytes o frame items e = ap checksummed e ∙ sealed_again o frame
+
+pub sealed_range : (o : Outer) → IsInRange o → IsInRange (sealed o)
+sealed_range o r = record { source = r.source; destination = r.destination; ttl = r.ttl; vni = r.vni; source_port = r.source_port }
+
+value_or : Outer → Result Outer WrapFault → Outer
+value_or o (Ok p) = p
+value_or o (Err f) = o
+
+same_value : (o p : Outer) → ◌≡◌ {A = Result Outer WrapFault} (Ok o) (Ok p) → o ≡ p
+unfolding value_or
+same_value o p e = ap (value_or o) e
+
+pub sealed_unwraps : (o p : Outer) (frame old new : List ℕ) → IsInRange o → length frame ≤ 65499 → old ≡ outer_packet (envelope o) frame → new ≡ outer_packet (envelope (sealed o)) frame
+    → reading old ≡ Ok p → reading new ≡ Ok (sealed p)
+sealed_unwraps o p frame old new range short e f r =
+    let same : o ≡ p = same_value o p (sym (ap reading e ∙ wrapped_reads o frame range short) ∙ r) in
+    ap reading f ∙ wrapped_reads (sealed o) frame (sealed_range o range) short ∙ ap (λ (q : Outer). Ok (sealed q)) same

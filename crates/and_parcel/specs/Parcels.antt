@@ -1,5 +1,5 @@
 -- Parcels and queues as contracts see them.
-use Rattle.std.specs.Prelude.{◌≡◌, ◌≤◌, ◌<◌, ◌^◌, ℕ, false, List, ◌++◌, length, Ok}
+use Rattle.std.specs.Prelude.{◌≡◌, ◌≤◌, ◌<◌, ◌^◌, ℕ, List, ◌++◌, length, Ok}
 use Rattle.and_policy.specs.Outer.{Envelope, outer_packet}
 use Rattle.and_parcel.specs.declared.outer.Outer.{Outer}
 use Rattle.and_parcel.specs.Reading.{reading}
@@ -28,9 +28,9 @@ pub record IsInRange (o : Outer) : Type 0 where
   pub vni : o.vni < 2 ^ 24
   pub source_port : o.source_port < 2 ^ 16
 
--- what the headers of an outer packet without a UDP checksum say is read of it
+-- what the headers of an outer packet say is read of it
 abbrev pub ReadsBack : Type 0
-ReadsBack = (o : Outer) (frame : List ℕ) → IsInRange o → o.sealed ≡ false → length frame ≤ 65499 → reading (outer_packet (envelope o) frame) ≡ Ok o
+ReadsBack = (o : Outer) (frame : List ℕ) → IsInRange o → length frame ≤ 65499 → reading (outer_packet (envelope o) frame) ≡ Ok o
 
 -- a queue: how many parcels it may hold, and those that it holds, the oldest first
 pub record QueueView : Type 0 where

@@ -1,12 +1,13 @@
 //! The 36 bytes before a frame.
-ghost use Rattle.std.specs.Prelude.{◌≡◌, ◌<◌, ◌≤◌, ◌^◌, ◌++◌, false, length, drop, Ok};
+ghost use Rattle.std.specs.Prelude.{◌≡◌, ◌==◌, ◌<◌, ◌≤◌, ◌^◌, ◌++◌, if◌then◌else◌, length, drop, Ok};
 ghost use Rattle.and_policy.specs.Outer as outers;
-ghost use Rattle.and_parcel.specs.Parcels.{envelope};
+ghost use Rattle.and_parcel.specs.Parcels.{IsInRange, envelope};
+ghost use Rattle.and_parcel.specs.Sealing.{open_packet, checksummed, with_sum};
 ghost use Rattle.and_parcel.specs.Reading.{reading};
 
-use crate::outer::Outer;
-use crate::sum::ones_sum;
+use crate::outer::{Outer, covered_sum};
 use crate::{IP_LEN, OUTER_LEN, UDP, VXLAN_PORT};
+use and_lanes::ones_sum;
 use byteorder::{BigEndian, ByteOrder};
 
 // The IPv4 header before a frame of this length, with this checksum.
@@ -82,18 +83,58 @@ fn put_vxlan(out: &mut [u8], outer: Outer)
     out[..8].copy_from_slice(&header);
 }
 
-/// Writes the 36 bytes before the frame, without a UDP checksum.
-pub fn write_header(bytes: &mut [u8], outer: Outer)
+// Writes the 36 bytes before the frame, without a UDP checksum.
+fn write_open(bytes: &mut [u8], outer: Outer)
     requires whole { OUTER_LEN ≤ length bytes.old }
     requires short { length bytes.old ≤ 65_535 }
     requires vni { outer.vni < 2 ^ 24 }
-    requires open { outer.sealed ≡ false }
-    ensures packet { bytes.new ≡ outers.outer_packet (envelope outer) (drop OUTER_LEN bytes.old) }
-    ensures reads { reading bytes.new ≡ Ok outer }
+    ensures packet { bytes.new ≡ open_packet (envelope outer) (drop OUTER_LEN bytes.old) }
+    ensures range { IsInRange outer }
 {
     let frame_len = (bytes.len() - OUTER_LEN) as u16;
     let checksum = 0xffff - ones_sum(&ip_header(outer, frame_len, 0));
     put_ip(bytes, outer, frame_len, checksum);
     put_udp(&mut bytes[IP_LEN..], outer, frame_len);
     put_vxlan(&mut bytes[28..], outer);
+}
+
+// Writes the UDP checksum field.
+fn put_sum(bytes: &mut [u8], sum: u16)
+    requires { OUTER_LEN ≤ length bytes.old }
+    ensures { bytes.new ≡ with_sum sum bytes.old }
+{
+    BigEndian::write_u16(&mut bytes[26..], sum);
+}
+
+// A computed checksum as it is sent: 0 would say that there is none.
+fn sent(sum: u16) -> u16
+    ensures { result ≡ (if sum == 0 then 65535 else sum) }
+{
+    if sum == 0 { 0xffff } else { sum }
+}
+
+/// Writes the UDP checksum of an outer packet (RFC 768), whatever its field had.
+pub(crate) fn put_checksum(bytes: &mut [u8])
+    requires whole { OUTER_LEN ≤ length bytes.old }
+    requires short { length bytes.old ≤ 65_535 }
+    ensures { bytes.new ≡ checksummed bytes.old }
+{
+    put_sum(bytes, 0);
+    let sum = sent(0xffff - covered_sum(bytes));
+    put_sum(bytes, sum);
+}
+
+/// Writes the 36 bytes before the frame, with a UDP checksum where it is sealed.
+pub(crate) fn write_header(bytes: &mut [u8], outer: Outer)
+    requires whole { OUTER_LEN ≤ length bytes.old }
+    requires short { length bytes.old ≤ 65_535 }
+    requires vni { outer.vni < 2 ^ 24 }
+    ensures packet { bytes.new ≡ outers.outer_packet (envelope outer) (drop OUTER_LEN bytes.old) }
+    ensures reads { reading bytes.new ≡ Ok outer }
+    ensures range { IsInRange outer }
+{
+    write_open(bytes, outer);
+    if outer.sealed {
+        put_checksum(bytes);
+    }
 }

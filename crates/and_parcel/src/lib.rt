@@ -5,7 +5,7 @@
 //! neither copy the frame nor take memory. [`read_outer`] tells the first check that bytes fail as an outer packet. A
 //! [`ParcelQueue`] takes all its memory when it is made.
 //!
-//! It stands on `and_policy`, whose definitions of frames and outer packets it computes, and on
+//! It stands on `and_policy`, whose definitions of frames and outer packets it computes, on `and_lanes` for the sums, and on
 //! `byteorder`.
 #![tactic(auto)]
 
@@ -14,9 +14,6 @@ mod outer;
 mod parcel;
 mod port;
 mod queue;
-mod sum;
-#[cfg(test)]
-mod tests;
 
 pub use and_policy::NoMemory;
 pub use outer::{Outer, WrapFault, outer_packets_read_back, read_outer};

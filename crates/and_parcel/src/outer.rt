@@ -5,8 +5,8 @@ ghost use Rattle.and_parcel.specs.Reading.{reading, covered, said};
 ghost use Rattle.and_parcel.specs.Parcels.{ReadsBack};
 ghost use Rattle.and_policy.specs.Outer as sums;
 
-use crate::sum::{folded, ones_sum, words_sum};
 use crate::{IP_LEN, OUTER_LEN, UDP, VXLAN_PORT};
+use and_lanes::{folded, ones_sum, words_sum};
 use byteorder::{BigEndian, ByteOrder};
 
 /// What the headers of an outer packet say. Addresses are 32-bit numbers whose highest byte is the first on the wire.
@@ -69,15 +69,15 @@ fn vni(bytes: &[u8]) -> u32
     BigEndian::read_u24(&bytes[32..])
 }
 
-// The one's complement sum of what the UDP checksum covers.
-fn covered_sum(bytes: &[u8]) -> u16
+/// The one's complement sum of what the UDP checksum covers.
+pub(crate) fn covered_sum(bytes: &[u8]) -> u16
     requires whole { OUTER_LEN ≤ length bytes.now }
     requires short { length bytes.now ≤ 65_535 }
     ensures { result ≡ sums.ones_sum (covered bytes.now) }
 {
     let addresses = words_sum(&bytes[12..IP_LEN]);
-    let len = u64::from(number16(bytes, 24));
-    folded(addresses + (u64::from(UDP) + (len + words_sum(&bytes[IP_LEN..]))))
+    let len = u128::from(number16(bytes, 24));
+    folded(addresses + (u128::from(UDP) + (len + words_sum(&bytes[IP_LEN..]))))
 }
 
 // What the headers say, whatever they are.
@@ -133,7 +133,7 @@ pub fn read_outer(bytes: &[u8]) -> Result<Outer, WrapFault>
     Ok(outer_of(bytes))
 }
 
-/// Law: what the headers of an outer packet without a UDP checksum say is read of it, for every frame that fits.
+/// Law: what the headers of an outer packet say is read of it, sealed or not, for every frame that fits.
 /// Whoever gets a packet that was sent so reads what was sent.
 pub fn outer_packets_read_back()
     ensures { ReadsBack }

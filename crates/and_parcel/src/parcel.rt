@@ -1,12 +1,14 @@
 //! Parcels: a frame with room for the outer headers before it.
-ghost use Rattle.std.specs.Prelude.{◌≡◌, ◌<◌, ◌^◌, false, IsOk, IfOk, Ok, replicate};
+ghost use Rattle.std.specs.Prelude.{◌≡◌, ◌<◌, ◌^◌, IsOk, IfOk, Ok, replicate};
 ghost use Rattle.and_policy.specs.Frames.{fields};
-ghost use Rattle.and_policy.specs.Outer.{outer_header};
-ghost use Rattle.and_parcel.specs.Parcels.{wire_of, envelope};
+ghost use Rattle.and_policy.specs.Outer.{outer_header, outer_packet};
+ghost use Rattle.and_parcel.specs.Parcels.{envelope, wire_of};
+ghost use Rattle.and_parcel.specs.Sealing.{IsWrapped, IsWrapping, sealed};
+ghost use Rattle.and_parcel.specs.declared.outer.Outer.{Outer};
 ghost use Rattle.and_parcel.specs.Reading.{reading};
 
 use crate::OUTER_LEN;
-use crate::header::write_header;
+use crate::header::{put_checksum, write_header};
 use crate::outer::{Outer, WrapFault, read_outer};
 use and_policy::NoMemory;
 use std::alloc::Global;
@@ -73,15 +75,27 @@ impl Parcel {
         self.vm
     }
 
-    /// Writes the outer headers, without a UDP checksum. Takes no memory, and neither moves nor copies the frame.
+    /// Writes the outer headers, with a UDP checksum (RFC 768) where they are sealed. Takes no memory, and neither moves nor copies the
+    /// frame.
     pub fn wrap(&mut self, outer: &Outer)
-        requires vni { outer.now.vni < 2 ^ 24 }
-        requires open { outer.now.sealed ≡ false }
+        requires { outer.now.vni < 2 ^ 24 }
         ensures header { self.new ≡ record self.old { header = outer_header (envelope outer.now) self.old.frame } }
+        ensures wrapped { IsWrapping outer.now self.new }
         // What was written is read again.
         ensures unwraps { reading (wire_of self.new) ≡ Ok outer.now }
     {
         write_header(&mut self.bytes, *outer);
+    }
+
+    /// Writes the UDP checksum of a wrapped parcel (RFC 768). Takes no memory, and neither moves nor copies the frame.
+    pub fn seal(&mut self)
+        requires { IsWrapped self.old }
+        // What was wrapped stands there sealed, and is read so.
+        ensures sealed { (o : Outer) → IsWrapping o self.old → wire_of self.new ≡ outer_packet (envelope (sealed o)) self.old.frame }
+        ensures unwraps { (o : Outer) → reading (wire_of self.old) ≡ Ok o → reading (wire_of self.new) ≡ Ok (sealed o) }
+        ensures kept { (self.new.frame ≡ self.old.frame) × (self.new.packet ≡ self.old.packet) × (self.new.vm ≡ self.old.vm) }
+    {
+        put_checksum(&mut self.bytes);
     }
 
     /// What the outer headers say, or the first check that they fail: [`read_outer`] of [`Parcel::wire`].

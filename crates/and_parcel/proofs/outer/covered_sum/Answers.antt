@@ -2,7 +2,7 @@ use Rattle.std.proofs.Common.{◌≡◌, ◌+◌, ℕ, length, drop, ap, ◌∙�
 use Rattle.std.proofs.lemmas.Slice.{between_to_end}
 use Rattle.and_policy.specs.Outer.{words_sum, folded}
 use Rattle.and_parcel.specs.Reading.{covered}
-use Rattle.and_parcel.proofs.Sums.{covered-sum}
+use Rattle.and_parcel.proofs.Covered.{covered-sum}
 use Rattle.and_parcel.proofs.outer.covered_sum.Goals as goal
 
 pub returns : goal.returns

@@ -1,6 +1,6 @@
 use Rattle.std.proofs.Common.{◌≡◌}
 use Rattle.and_policy.specs.Outer.{folded}
-use Rattle.and_parcel.proofs.sum.folded.Given as goal
+use Rattle.and_lanes.proofs.sum.folded.Given as goal
 
 abbrev pub invariant-loop-sum : goal.invariant-loop-sum
 invariant-loop-sum l = folded l.sum l.sum ≡ folded l.words l.words

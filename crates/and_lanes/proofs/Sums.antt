@@ -1,10 +1,7 @@
 -- One's complement sums.
-use Rattle.std.proofs.Common.{◌≡◌, ℕ, zero, suc, ◌+◌, ◌-◌, ◌*◌, ◌/◌, ◌%◌, ◌<◌, ◌≤◌, List, [], ◌∷◌, ◌++◌, length, get_or, take, drop, refl, sym, ◌∙◌, arith, inl, inr, length-drop}
+use Rattle.std.proofs.Common.{◌≡◌, ℕ, zero, suc, ◌+◌, ◌-◌, ◌*◌, ◌/◌, ◌%◌, ◌<◌, ◌≤◌, List, [], ◌∷◌, ◌++◌, length, get_or, take, refl, sym, ◌∙◌, arith, inl, inr}
 use Rattle.std.proofs.lemmas.Bool.{cases_lt, lt-ltb, le-ltb}
-use Rattle.std.proofs.lemmas.List.{length-take, get_or-drop}
-use Rattle.and_policy.specs.Numbers.{number_from}
 use Rattle.and_policy.specs.Outer.{words_sum, folded}
-use Rattle.and_parcel.specs.Reading.{covered}
 
 -- ---- words
 
@@ -72,18 +69,29 @@ with_checksum sum total some e =
     let b = is_folded total total (omega arith) (omega arith) in
     omega (arith, a.same, a.fits, a.some, b.same, b.fits, b.some)
 
+pub folded-fits : (sum : ℕ) → folded sum sum < 65536
+folded-fits sum =
+    elim (cases_lt 0 sum) [
+      | inl lt ↦ let a = is_folded sum sum (omega arith) lt in a.fits
+      | inr le ↦ let e = folded-small sum (omega arith) in omega (arith, e)
+    ]
+
+-- a sum that is all ones stays so with all ones added
+pub with_all_ones : (sum total : ℕ) → 0 < sum → folded sum sum ≡ 65535 → total ≡ sum + 65535 → folded total total ≡ 65535
+with_all_ones sum total some ones e =
+    let a = is_folded sum sum (omega arith) some in
+    let b = is_folded total total (omega arith) (omega arith) in
+    omega (arith, a.same, a.fits, a.some, b.same, b.fits, b.some, ones)
+
 -- the two bytes of a number are one word
 pub words_sum-take_2 : (xs : List ℕ) → 2 ≤ length xs → words_sum (take 2 xs) ≡ get_or xs 0 0 * 256 + get_or xs 1 0
 words_sum-take_2 [] long = absurd (omega arith)
 words_sum-take_2 (x ∷ []) long = absurd (omega arith)
 words_sum-take_2 (x ∷ y ∷ xs) long = omega arith
 
--- what the UDP checksum covers, word by word
-pub covered-sum : (bytes : List ℕ) → 36 ≤ length bytes → words_sum (take 8 (drop 12 bytes)) + (17 + (number_from 24 2 bytes + words_sum (drop 20 bytes))) ≡ words_sum (covered bytes)
-covered-sum bytes long =
-    let addresses : length (take 8 (drop 12 bytes)) ≡ 4 + 4 = omega (arith, length-take 8 (drop 12 bytes), length-drop 12 bytes) in
-    let len : length (take 2 (drop 24 bytes)) ≡ 1 + 1 = omega (arith, length-take 2 (drop 24 bytes), length-drop 24 bytes) in
-    let first = words_sum-append (take 8 (drop 12 bytes)) (0 ∷ 17 ∷ (take 2 (drop 24 bytes) ++ drop 20 bytes)) 4 addresses in
-    let second = words_sum-append (take 2 (drop 24 bytes)) (drop 20 bytes) 1 len in
-    let word = words_sum-take_2 (drop 24 bytes) (omega (arith, length-drop 24 bytes)) in
-    omega (arith, first, second, word, get_or-drop 24 bytes 0 0, get_or-drop 24 bytes 1 0)
+pub folded-zero : (sum : ℕ) → folded sum sum ≡ 0 → sum ≡ 0
+folded-zero sum e =
+    elim (cases_lt 0 sum) [
+      | inl lt ↦ let a = is_folded sum sum (omega arith) lt in absurd (omega (arith, a.some, e))
+      | inr le ↦ omega arith
+    ]

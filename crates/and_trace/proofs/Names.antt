@@ -49,7 +49,7 @@ trace_turned (e ∷ h) es =
 whole : (h : List Event) → trace h ≡ title ++ lines (turned h [])
 whole h = sym (append-nil (trace h)) ∙ trace_turned h []
 
-same_rest : (xs us vs : List ℕ) → xs ++ us ≡ xs ++ vs → us ≡ vs
+pub same_rest : (xs us vs : List ℕ) → xs ++ us ≡ xs ++ vs → us ≡ vs
 same_rest [] us vs e = e
 same_rest (x ∷ xs) us vs e = same_rest xs us vs (tail_is x x (xs ++ us) (xs ++ vs) e)
 

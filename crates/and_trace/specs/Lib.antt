@@ -1,2 +1,4 @@
 pub mod Words
 pub mod Spelling
+pub mod Fields
+pub mod Grammar

@@ -152,9 +152,13 @@ rest_of (events.Unpin host vm) = AtHost host ∷ Number vm ∷ []
 abbrev pub spaced : Word → List ℕ
 spaced w = 32 ∷ spelling w
 
--- words with one space between, and a line feed at the end
+-- words with one space between
+abbrev pub said : Event → List ℕ
+said e = key_text (kind_of e) ++ flat_map spaced (rest_of e)
+
+-- and a line feed at the end
 abbrev pub line_of : Event → List ℕ
-line_of e = key_text (kind_of e) ++ flat_map spaced (rest_of e) ++ 10 ∷ []
+line_of e = said e ++ 10 ∷ []
 
 abbrev pub title : List ℕ
 title = codes "andromeda trace 1\n"

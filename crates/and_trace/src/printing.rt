@@ -1,10 +1,11 @@
 //! The trace of lines.
-ghost use Rattle.std.specs.Prelude.{◌≡◌, ◌++◌, ◌∷◌, [], OnOk, IfOk};
+ghost use Rattle.std.specs.Prelude.{◌≡◌, ◌++◌, ◌∷◌, [], map, OnOk, IfOk};
 ghost use Rattle.std.specs.List.{flat_map};
 ghost use Rattle.and_policy.specs.declared.decision.Name.{Name};
 ghost use Rattle.and_events.specs.Run.{past};
 ghost use Rattle.and_trace.specs.Spelling as spells;
-ghost use Rattle.and_trace.specs.Spelling.{spaced, FitsWord, FitWords, HaveSpellings, IsSpelled};
+ghost use Rattle.and_trace.specs.Spelling.{spaced, HaveSpellings, IsSpelled};
+ghost use Rattle.and_trace.specs.Grammar.{IsShort, AreShort, Spells};
 
 use crate::put::{put, put_words};
 use crate::word::{Key, Word};
@@ -14,7 +15,7 @@ use std::alloc::Global;
 
 fn node_word(node: Node) -> Word
     ensures word { result ≡ spells.node_word node }
-    ensures fits { FitsWord (spells.node_word node) }
+    ensures fits { IsShort (spells.node_word node) }
 {
     match node {
         Node::Host(host) => Word::AtHost(host),
@@ -25,7 +26,7 @@ fn node_word(node: Node) -> Word
 // The last case is met by no event that has a spelling.
 fn actor_word(actor: Actor) -> Word
     ensures word { result ≡ spells.actor_word actor }
-    ensures fits { FitsWord (spells.actor_word actor) }
+    ensures fits { IsShort (spells.actor_word actor) }
 {
     match actor {
         Actor::Worker { host, index } => Word::HostWorker { host, index },
@@ -85,7 +86,7 @@ fn verdict_word(pass: bool) -> Word
 // A rule or a route, as the kind says, or the implied verdict.
 fn put_name(kind: Key, by: Name, text: &mut Vec<u8>) -> Result<(), NoMemory>
     ensures text { OnOk result (text.new.items ≡ text.old.items ++ flat_map spaced (spells.name_words kind by)) }
-    ensures fits { FitWords (spells.name_words kind by) }
+    ensures fits { AreShort (spells.name_words kind by) }
 {
     match by {
         Name::Implied => put_words(&[Word::Text(Key::Implied)], text),
@@ -95,7 +96,7 @@ fn put_name(kind: Key, by: Name, text: &mut Vec<u8>) -> Result<(), NoMemory>
 
 fn put_dest(dest: Dest, text: &mut Vec<u8>) -> Result<(), NoMemory>
     ensures text { OnOk result (text.new.items ≡ text.old.items ++ flat_map spaced (spells.dest_words dest)) }
-    ensures fits { FitWords (spells.dest_words dest) }
+    ensures fits { AreShort (spells.dest_words dest) }
 {
     match dest {
         Dest::Offload { host, net } => put_words(
@@ -122,7 +123,7 @@ fn put_allowed(
     text: &mut Vec<u8>,
 ) -> Result<(), NoMemory>
     ensures text { OnOk result (text.new.items ≡ text.old.items ++ flat_map spaced (spells.departure_words (Departure.Allowed by sealed dest end))) }
-    ensures fits { FitWords (spells.departure_words (Departure.Allowed by sealed dest end)) }
+    ensures fits { AreShort (spells.departure_words (Departure.Allowed by sealed dest end)) }
 {
     put_words(&[Word::Text(Key::Allow)], text)?;
     put_name(Key::Rule, by, text)?;
@@ -134,7 +135,7 @@ fn put_allowed(
 
 fn put_departure(departure: Departure, text: &mut Vec<u8>) -> Result<(), NoMemory>
     ensures text { OnOk result (text.new.items ≡ text.old.items ++ flat_map spaced (spells.departure_words departure)) }
-    ensures fits { FitWords (spells.departure_words departure) }
+    ensures fits { AreShort (spells.departure_words departure) }
 {
     match departure {
         Departure::NoVm => put_words(&[Word::Text(Key::NoVm)], text),
@@ -153,7 +154,7 @@ fn put_departure(departure: Departure, text: &mut Vec<u8>) -> Result<(), NoMemor
 
 fn put_passage(passage: Passage, text: &mut Vec<u8>) -> Result<(), NoMemory>
     ensures text { OnOk result (text.new.items ≡ text.old.items ++ flat_map spaced (spells.passage_words passage)) }
-    ensures fits { FitWords (spells.passage_words passage) }
+    ensures fits { AreShort (spells.passage_words passage) }
 {
     match passage {
         Passage::Dropped { by } => {
@@ -185,7 +186,7 @@ fn put_passage(passage: Passage, text: &mut Vec<u8>) -> Result<(), NoMemory>
 
 fn put_return(back: Return, text: &mut Vec<u8>) -> Result<(), NoMemory>
     ensures text { OnOk result (text.new.items ≡ text.old.items ++ flat_map spaced (spells.return_words back)) }
-    ensures fits { FitWords (spells.return_words back) }
+    ensures fits { AreShort (spells.return_words back) }
 {
     match back {
         Return::NoOwner => put_words(&[Word::Text(Key::NoOwner)], text),
@@ -200,7 +201,7 @@ fn put_return(back: Return, text: &mut Vec<u8>) -> Result<(), NoMemory>
 // The VM, and what the word says of it.
 fn put_vm(vm: u32, what: Key, text: &mut Vec<u8>) -> Result<(), NoMemory>
     ensures text { OnOk result (text.new.items ≡ text.old.items ++ flat_map spaced (Word.Text Key.Vm ∷ Word.Number vm ∷ Word.Text what ∷ [])) }
-    ensures fits { FitWords (Word.Text Key.Vm ∷ Word.Number vm ∷ Word.Text what ∷ []) }
+    ensures fits { AreShort (Word.Text Key.Vm ∷ Word.Number vm ∷ Word.Text what ∷ []) }
 {
     put_words(
         &[Word::Text(Key::Vm), Word::Number(vm), Word::Text(what)],
@@ -210,7 +211,7 @@ fn put_vm(vm: u32, what: Key, text: &mut Vec<u8>) -> Result<(), NoMemory>
 
 fn put_arrival(arrival: Arrival, text: &mut Vec<u8>) -> Result<(), NoMemory>
     ensures text { OnOk result (text.new.items ≡ text.old.items ++ flat_map spaced (spells.arrival_words arrival)) }
-    ensures fits { FitWords (spells.arrival_words arrival) }
+    ensures fits { AreShort (spells.arrival_words arrival) }
 {
     match arrival {
         Arrival::NoOwner => put_words(&[Word::Text(Key::NoOwner)], text),
@@ -234,7 +235,7 @@ fn put_arrival(arrival: Arrival, text: &mut Vec<u8>) -> Result<(), NoMemory>
 // The actor, the packet and the number of operations of a decision.
 fn put_decider(actor: Actor, packet: u32, at: u32, text: &mut Vec<u8>) -> Result<(), NoMemory>
     ensures text { OnOk result (text.new.items ≡ text.old.items ++ flat_map spaced (spells.actor_word actor ∷ Word.Number packet ∷ Word.Number at ∷ [])) }
-    ensures fits { FitWords (spells.actor_word actor ∷ Word.Number packet ∷ Word.Number at ∷ []) }
+    ensures fits { AreShort (spells.actor_word actor ∷ Word.Number packet ∷ Word.Number at ∷ []) }
 {
     put_words(
         &[actor_word(actor), Word::Number(packet), Word::Number(at)],
@@ -278,7 +279,7 @@ fn put_egress(
     text: &mut Vec<u8>,
 ) -> Result<(), NoMemory>
     ensures text { OnOk result (text.new.items ≡ text.old.items ++ flat_map spaced (spells.rest_of (Event.Egress actor packet at way departure))) }
-    ensures fits { FitWords (spells.rest_of (Event.Egress actor packet at way departure)) }
+    ensures fits { AreShort (spells.rest_of (Event.Egress actor packet at way departure)) }
 {
     put_decider(actor, packet, at, text)?;
     put_words(&[way_word(way)], text)?;
@@ -294,7 +295,7 @@ fn put_route(
     text: &mut Vec<u8>,
 ) -> Result<(), NoMemory>
     ensures text { OnOk result (text.new.items ≡ text.old.items ++ flat_map spaced (spells.rest_of (Event.Route actor packet at passage))) }
-    ensures fits { FitWords (spells.rest_of (Event.Route actor packet at passage)) }
+    ensures fits { AreShort (spells.rest_of (Event.Route actor packet at passage)) }
 {
     put_decider(actor, packet, at, text)?;
     put_passage(passage, text)?;
@@ -309,7 +310,7 @@ fn put_redirect(
     text: &mut Vec<u8>,
 ) -> Result<(), NoMemory>
     ensures text { OnOk result (text.new.items ≡ text.old.items ++ flat_map spaced (spells.rest_of (Event.Redirect actor packet at back))) }
-    ensures fits { FitWords (spells.rest_of (Event.Redirect actor packet at back)) }
+    ensures fits { AreShort (spells.rest_of (Event.Redirect actor packet at back)) }
 {
     put_decider(actor, packet, at, text)?;
     put_return(back, text)?;
@@ -325,7 +326,7 @@ fn put_ingress(
     text: &mut Vec<u8>,
 ) -> Result<(), NoMemory>
     ensures text { OnOk result (text.new.items ≡ text.old.items ++ flat_map spaced (spells.rest_of (Event.Ingress actor packet at way arrival))) }
-    ensures fits { FitWords (spells.rest_of (Event.Ingress actor packet at way arrival)) }
+    ensures fits { AreShort (spells.rest_of (Event.Ingress actor packet at way arrival)) }
 {
     put_decider(actor, packet, at, text)?;
     put_words(&[way_word(way)], text)?;
@@ -336,7 +337,7 @@ fn put_ingress(
 // The words after the first of an event that is a step of the plan.
 fn put_step(step: u32, text: &mut Vec<u8>) -> Result<(), NoMemory>
     ensures text { OnOk result (text.new.items ≡ text.old.items ++ flat_map spaced (Word.Number step ∷ [])) }
-    ensures fits { FitWords (Word.Number step ∷ []) }
+    ensures fits { AreShort (Word.Number step ∷ []) }
 {
     put_words(&[Word::Number(step)], text)
 }
@@ -344,7 +345,7 @@ fn put_step(step: u32, text: &mut Vec<u8>) -> Result<(), NoMemory>
 // The words after the first of a packet's entry.
 fn put_inject(step: u32, packet: u32, full: bool, text: &mut Vec<u8>) -> Result<(), NoMemory>
     ensures text { OnOk result (text.new.items ≡ text.old.items ++ flat_map spaced (spells.rest_of (Event.Inject step packet full))) }
-    ensures fits { FitWords (spells.rest_of (Event.Inject step packet full)) }
+    ensures fits { AreShort (spells.rest_of (Event.Inject step packet full)) }
 {
     put_words(
         &[Word::Number(step), Word::Number(packet), full_word(full)],
@@ -355,7 +356,7 @@ fn put_inject(step: u32, packet: u32, full: bool, text: &mut Vec<u8>) -> Result<
 // The words after the first where an actor takes a packet.
 fn put_take(actor: Actor, queue: Queue, packet: u32, text: &mut Vec<u8>) -> Result<(), NoMemory>
     ensures text { OnOk result (text.new.items ≡ text.old.items ++ flat_map spaced (spells.rest_of (Event.Take actor queue packet))) }
-    ensures fits { FitWords (spells.rest_of (Event.Take actor queue packet)) }
+    ensures fits { AreShort (spells.rest_of (Event.Take actor queue packet)) }
 {
     put_words(
         &[actor_word(actor), queue_word(queue), Word::Number(packet)],
@@ -366,7 +367,7 @@ fn put_take(actor: Actor, queue: Queue, packet: u32, text: &mut Vec<u8>) -> Resu
 // The words after the first of a packet that a coprocessor has sealed.
 fn put_sealed(actor: Actor, packet: u32, end: End, text: &mut Vec<u8>) -> Result<(), NoMemory>
     ensures text { OnOk result (text.new.items ≡ text.old.items ++ flat_map spaced (spells.rest_of (Event.Sealed actor packet end))) }
-    ensures fits { FitWords (spells.rest_of (Event.Sealed actor packet end)) }
+    ensures fits { AreShort (spells.rest_of (Event.Sealed actor packet end)) }
 {
     put_words(
         &[actor_word(actor), Word::Number(packet), end_word(end)],
@@ -377,7 +378,7 @@ fn put_sealed(actor: Actor, packet: u32, end: End, text: &mut Vec<u8>) -> Result
 // The words after the first of a hairpin's end.
 fn put_unpin(host: u32, vm: u32, text: &mut Vec<u8>) -> Result<(), NoMemory>
     ensures text { OnOk result (text.new.items ≡ text.old.items ++ flat_map spaced (spells.rest_of (Event.Unpin host vm))) }
-    ensures fits { FitWords (spells.rest_of (Event.Unpin host vm)) }
+    ensures fits { AreShort (spells.rest_of (Event.Unpin host vm)) }
 {
     put_words(&[Word::AtHost(host), Word::Number(vm)], text)
 }
@@ -385,7 +386,7 @@ fn put_unpin(host: u32, vm: u32, text: &mut Vec<u8>) -> Result<(), NoMemory>
 // The words after the first of an event of an installer.
 fn put_install(node: Node, upto: u32, text: &mut Vec<u8>) -> Result<(), NoMemory>
     ensures text { OnOk result (text.new.items ≡ text.old.items ++ flat_map spaced (spells.node_word node ∷ Word.Number upto ∷ [])) }
-    ensures fits { FitWords (spells.node_word node ∷ Word.Number upto ∷ []) }
+    ensures fits { AreShort (spells.node_word node ∷ Word.Number upto ∷ []) }
 {
     put_words(&[node_word(node), Word::Number(upto)], text)
 }
@@ -393,7 +394,7 @@ fn put_install(node: Node, upto: u32, text: &mut Vec<u8>) -> Result<(), NoMemory
 // The words after the first.
 fn put_rest(event: &Event, text: &mut Vec<u8>) -> Result<(), NoMemory>
     ensures text { OnOk result (text.new.items ≡ text.old.items ++ flat_map spaced (spells.rest_of event.now)) }
-    ensures fits { FitWords (spells.rest_of event.now) }
+    ensures fits { AreShort (spells.rest_of event.now) }
 {
     match *event {
         Event::Append { step } => put_step(step, text),
@@ -443,13 +444,22 @@ fn put_rest(event: &Event, text: &mut Vec<u8>) -> Result<(), NoMemory>
     }
 }
 
-// The line of an event.
-fn put_line(event: &Event, text: &mut Vec<u8>) -> Result<(), NoMemory>
-    ensures text { OnOk result (text.new.items ≡ text.old.items ++ spells.line_of event.now) }
-    ensures fits { OnOk result (FitWords (spells.rest_of event.now)) }
+/// Puts the words of an event.
+pub(crate) fn put_event(event: &Event, text: &mut Vec<u8>) -> Result<(), NoMemory>
+    ensures text { OnOk result (text.new.items ≡ text.old.items ++ spells.said event.now) }
+    ensures fits { OnOk result (AreShort (spells.rest_of event.now)) }
 {
     put(kind_of(event).text().as_bytes(), text)?;
     put_rest(event, text)?;
+    Ok(())
+}
+
+// The line of an event.
+fn put_line(event: &Event, text: &mut Vec<u8>) -> Result<(), NoMemory>
+    ensures text { OnOk result (text.new.items ≡ text.old.items ++ spells.line_of event.now) }
+    ensures fits { OnOk result (AreShort (spells.rest_of event.now)) }
+{
+    put_event(event, text)?;
     put(b"\n", text)?;
     Ok(())
 }
@@ -457,11 +467,12 @@ fn put_line(event: &Event, text: &mut Vec<u8>) -> Result<(), NoMemory>
 /// The trace of the lines, oldest first: the first line is `andromeda trace 1`, and each event is a line of
 /// words, one space between two, numbers in decimal. Each line is to have a spelling, as the lines of a run have:
 /// an actor that takes no packets has no word of its own. The clause `spelled` says this: the numbers of the lines
-/// are those of 32 bits, so that the events have a spelling as soon as their actors take packets. Want of memory is
-/// the only error.
+/// are those of 32 bits, so that the events have a spelling as soon as their actors take packets; and `readable`
+/// says that `read_trace` gives the events again. Want of memory is the only error.
 pub fn print_trace(alloc: Global, lines: &[Line]) -> Result<Vec<u8>, NoMemory>
     ensures text { IfOk result (λ t. t.items ≡ spells.trace (past lines.now)) }
     ensures spelled { IfOk result (λ t. HaveSpellings (past lines.now) → IsSpelled (past lines.now)) }
+    ensures readable { IfOk result (λ t. HaveSpellings (past lines.now) → Spells t.items (map (λ l. l.event) lines.now)) }
 {
     let mut text = Vec::new(alloc);
     put(b"andromeda trace 1\n", &mut text)?;

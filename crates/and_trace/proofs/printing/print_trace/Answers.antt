@@ -4,7 +4,7 @@ use Rattle.and_events.specs.declared.event.Event.TheVariants.{Append}
 use Rattle.and_events.specs.declared.event.Line.{Line}
 use Rattle.and_events.specs.Run.{past}
 use Rattle.and_trace.specs.Spelling.{title, trace}
-use Rattle.and_trace.proofs.Printed.{printed, printed_all, put_next, fit_next, spelled_all}
+use Rattle.and_trace.proofs.Printed.{printed, printed_all, put_next, fit_next, spelled_all, spells_all}
 use Rattle.and_trace.proofs.printing.print_trace.Goals as goal
 
 pub loop-line-init : goal.loop-line-init
@@ -22,3 +22,6 @@ loop-line-preserved c =
 
 pub returns-clause-spelled : goal.returns-clause-spelled
 returns-clause-spelled c = spelled_all (drop c.loop-line.line-index c.args.lines.now) c.args.lines.now (drop_all c.loop-line.line-index c.args.lines.now (omega arith)) c.loop-line.invariant.1
+
+pub returns-clause-readable : goal.returns-clause-readable
+returns-clause-readable c = spells_all (drop c.loop-line.line-index c.args.lines.now) c.args.lines.now c.loop-line.text.items (drop_all c.loop-line.line-index c.args.lines.now (omega arith)) c.loop-line.invariant.1 c.loop-line.invariant.0

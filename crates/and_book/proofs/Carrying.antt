@@ -40,7 +40,8 @@ use Rattle.and_events.specs.Sound.{IsSound, IsBuilt}
 use Rattle.and_laws.proofs.Offloading.{right_orders, by_order, dest_of}
 use Rattle.and_laws.proofs.Rows.{set_at}
 use Rattle.and_book.specs.Nets.{net_in}
-use Rattle.and_book.specs.Settling.{LeadsRouted, leaving_said}
+use Rattle.and_kept.specs.Settling.{LeadsRouted}
+use Rattle.and_book.specs.Settling.{leaving_said}
 use Rattle.and_book.proofs.Known.{IsKnown, known_plan}
 use Rattle.and_book.proofs.Leading.{known_entries, leads_by}
 use Rattle.and_book.proofs.NetTable.{net_first}

@@ -1,5 +1,5 @@
 -- A packet that leaves a VM and is settled: the event is legal, and what is kept after it.
-use Rattle.std.proofs.Common.{◌≡◌, ℕ, ◌+◌, ◌<◌, ◌^◌, Bool, true, false, List, length, refl, ap, ◌∙◌, subst, arith, Option, Some, None}
+use Rattle.std.proofs.Common.{◌≡◌, ℕ, ◌<◌, ◌^◌, Bool, true, false, List, length, refl, subst, arith, Option, Some, None}
 use Rattle.and_policy.specs.declared.decision.Dest.{Dest}
 use Rattle.and_policy.specs.declared.decision.Exit.{Exit}
 use Rattle.and_policy.specs.declared.decision.Exit.TheVariants as exits
@@ -15,37 +15,25 @@ use Rattle.and_policy.specs.Programmes.{prefix, live, own_net, dest_by, leaving_
 use Rattle.and_policy.specs.Routes.{route}
 use Rattle.and_events.specs.declared.event.Actor.{Actor}
 use Rattle.and_events.specs.declared.event.Actor.TheVariants.{HostInstall, GateInstall, Worker, Coproc, Gateway, Controller, Driver}
-use Rattle.and_events.specs.declared.event.Departure.{Departure}
 use Rattle.and_events.specs.declared.event.Departure.TheVariants as departures
-use Rattle.and_events.specs.declared.event.End.{End}
-use Rattle.and_events.specs.declared.event.End.TheVariants.{Queued, Full, Hops}
-use Rattle.and_events.specs.declared.event.Endpoint.{Endpoint}
 use Rattle.and_events.specs.declared.event.Event.{Event}
-use Rattle.and_events.specs.declared.event.Event.TheVariants.{Egress}
-use Rattle.and_events.specs.declared.event.Held.{Held}
 use Rattle.and_events.specs.declared.event.Node.{Node}
 use Rattle.and_events.specs.declared.event.Node.TheVariants.{Host, Gate}
 use Rattle.and_events.specs.declared.event.Queue.TheVariants.{Out, Seal}
 use Rattle.and_events.specs.declared.plan.Plan.{Plan}
 use Rattle.and_events.specs.declared.plan.Settings.{Settings}
-use Rattle.and_events.specs.Places.{hand_place, queue_place, queue_count, node_of, IsNode, IsActor, IsWorker, HasQueue}
-use Rattle.and_events.specs.Flow.{Flow, flow_after, hand_at, seal_by}
-use Rattle.and_events.specs.Ports.{ports_after}
-use Rattle.and_events.specs.Programming.{programmes_after}
-use Rattle.and_events.specs.State.{State, state, after, move_of, word_of, ports_move_of, step_of, departs, dest_endpoint, dest_net, node_at, source_net, packet_at, tuple_at, carried_at, programme_of}
+use Rattle.and_events.specs.Places.{queue_place, queue_count, node_of, IsNode, IsActor, IsWorker, HasQueue}
+use Rattle.and_events.specs.State.{State, state, dest_endpoint, dest_net, node_at, source_net, packet_at, tuple_at, carried_at, programme_of}
 use Rattle.and_events.specs.Legal.{Legal, Decides, Departs, Sends}
 use Rattle.and_events.specs.Run.{Run}
 use Rattle.and_events.specs.Sound.{IsSound, IsBuilt}
-use Rattle.and_laws.specs.Fates.{in_hand_count}
 use Rattle.and_laws.proofs.Offloading.{right_orders}
-use Rattle.and_kept.specs.Lanes.{Roads}
-use Rattle.and_book.specs.Settling.{queue_to, departs_end, departure_of, LeadsRouted, LeadsLeaving, leaving_said, egress_event}
-use Rattle.and_book.specs.Inside.{Kept, Stands}
+use Rattle.and_kept.specs.Settling.{departs_end, departure_of, LeadsRouted, LeadsLeaving}
+use Rattle.and_book.specs.Settling.{leaving_said, egress_event}
 use Rattle.and_book.proofs.Ends.{Within, ends_at, sends_end}
 use Rattle.and_book.proofs.Carrying.{own_fits}
 use Rattle.and_book.proofs.Leading.{known_entries, leads_by}
-use Rattle.and_book.proofs.Settled.{lets_go, send_lets_go, worker_node}
-use Rattle.and_book.proofs.More.{IsAfter}
+use Rattle.and_book.proofs.Settled.{worker_node}
 
 -- ---- where it leads
 
@@ -121,50 +109,3 @@ legal_egress plan s a i at way decides worker hops leads sized w = (
   worker,
   departs_so plan s (node_of a) i (source_net plan i) (leaving_said plan s a i at) (worker_node plan.settings a worker decides.actor) (seals_at a worker) hops leads sized w,
 )
-
--- ---- after it
-
-pub after_egress : (plan : Plan) (s : State) (k : Kept) (roads : Roads) (a : Actor) (i hand own at : ℕ) (here : Node) (way : Way) (x : Departure) → Stands k s → hand ≡ hand_place plan.settings a → own ≡ source_net plan i → here ≡ node_of a → roads.flow ≡ flow_after k.roads.flow (departs plan.settings own hand i here x) → roads.capacities ≡ k.roads.capacities
-    → IsAfter plan s (Egress a i at way x) k (record k { roads = roads })
-unfolding after move_of word_of ports_move_of step_of programmes_after ports_after
-after_egress plan s k roads a i hand own at here way x st there net node moved same =
-    record {
-      stands = record {
-        next = st.next;
-        programmes = st.programmes;
-        ports = st.ports;
-        flow = moved
-            ∙ (ap (λ f. flow_after f (departs plan.settings own hand i here x)) st.flow
-            ∙ (ap (λ n. flow_after s.flow (departs plan.settings own n i here x)) there
-            ∙ (ap (λ n. flow_after s.flow (departs plan.settings n (hand_place plan.settings a) i here x)) net
-            ∙ ap (λ n. flow_after s.flow (departs plan.settings (source_net plan i) (hand_place plan.settings a) i n x)) node)));
-      };
-      capacities = same;
-      limit = refl;
-      vms = refl;
-      nets = refl;
-    }
-
--- the move that is made is the event's
-pub move_egress : (plan : Plan) (s : State) (a : Actor) (i hand own at : ℕ) (here : Node) (way : Way) (x : Departure) → hand ≡ hand_place plan.settings a → own ≡ source_net plan i → here ≡ node_of a → departs plan.settings own hand i here x ≡ move_of plan s (Egress a i at way x)
-unfolding move_of
-move_egress plan s a i hand own at here way x there net node =
-    ap (λ n. departs plan.settings own n i here x) there
-    ∙ (ap (λ n. departs plan.settings n (hand_place plan.settings a) i here x) net
-    ∙ ap (λ n. departs plan.settings (source_net plan i) (hand_place plan.settings a) i n x) node)
-
-seal_lets_go : (f : Flow) (hand q i net : ℕ) (end : End) (target : Endpoint) (h : Held) → hand < length f.hands → hand_at f.hands hand ≡ Some h → in_hand_count (flow_after f (seal_by hand q i end net target)) + 1 ≡ in_hand_count f
-unfolding flow_after
-seal_lets_go f hand q i net Queued target h there is = lets_go f hand h there is
-seal_lets_go f hand q i net Full target h there is = lets_go f hand h there is
-seal_lets_go f hand q i net Hops target h there is = lets_go f hand h there is
-
-pub departs_lets_go : (v : Settings) (f f' : Flow) (hand i own : ℕ) (here : Node) (x : Departure) (h : Held) → hand < length f.hands → hand_at f.hands hand ≡ Some h → f' ≡ flow_after f (departs v own hand i here x) → in_hand_count f' + 1 ≡ in_hand_count f
-unfolding flow_after
-departs_lets_go v f f' hand i own here (departures.Allowed by true dest end) h there is moved =
-    ap (λ y. in_hand_count y + 1) moved ∙ seal_lets_go f hand (queue_place v here Seal) i (dest_net own dest) end (dest_endpoint dest) h there is
-departs_lets_go v f f' hand i own here (departures.Allowed by false dest end) h there is moved =
-    ap (λ y. in_hand_count y + 1) moved ∙ send_lets_go f hand (queue_to v (dest_endpoint dest)) i (dest_net own dest) end (dest_endpoint dest) h there is
-departs_lets_go v f f' hand i own here departures.NoVm h there is moved = ap (λ y. in_hand_count y + 1) moved ∙ lets_go f hand h there is
-departs_lets_go v f f' hand i own here departures.Spoofed h there is moved = ap (λ y. in_hand_count y + 1) moved ∙ lets_go f hand h there is
-departs_lets_go v f f' hand i own here (departures.Denied n) h there is moved = ap (λ y. in_hand_count y + 1) moved ∙ lets_go f hand h there is

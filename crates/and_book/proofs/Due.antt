@@ -105,11 +105,12 @@ module _ (plan : Plan) (h : List Event) (sound : IsSound plan) (built : IsBuilt 
 
   -- ---- by what is kept
 
-  pub enabled_by : (k : Kept) (due : Option Step) (a : Actor) (b : Bool) → Stands k s → due ≡ slice_get plan.steps s.next
-      → (IsTrue b ↔ CanAct plan.settings plan.packets k.progress.programmes k.roads.flow due a) → IsTrue b ↔ Enabled plan s a
-  enabled_by k due a b st is can =
+  pub enabled_by : (k : Kept) → k.roads.settings ≡ plan.settings → (due : Option Step) (a : Actor) (b : Bool) → Stands k s → due ≡ slice_get plan.steps s.next
+      → (IsTrue b ↔ CanAct k.roads.settings plan.packets k.progress.programmes k.roads.flow due a) → IsTrue b ↔ Enabled plan s a
+  enabled_by k settings due a b st is can =
       let now_is : IsTrue b ↔ CanActNow a =
       subst (λ o. IsTrue b ↔ CanAct plan.settings plan.packets s.programmes s.flow o a) is
       (subst (λ f. IsTrue b ↔ CanAct plan.settings plan.packets s.programmes f due a) st.flow
-      (subst (λ p. IsTrue b ↔ CanAct plan.settings plan.packets p k.roads.flow due a) st.programmes can)) in
+      (subst (λ p. IsTrue b ↔ CanAct plan.settings plan.packets p k.roads.flow due a) st.programmes
+      (subst (λ v. IsTrue b ↔ CanAct v plan.packets k.progress.programmes k.roads.flow due a) settings can))) in
       ((λ t. may_act a (now_is.0 t)), (λ e. now_is.1 (may_act_of a e)))

@@ -25,7 +25,8 @@ use Rattle.and_events.specs.Legal.{CanAnnounce, CanInstall, CanTake, CanStep, Ha
 use Rattle.and_events.specs.Sound.{IsBuiltStep}
 use Rattle.and_laws.specs.Sizes.{HasSizes, HasNodes}
 use Rattle.and_laws.proofs.GoingOn.{AreFree, queue_of}
-use Rattle.and_book.specs.Views.{Handles, source_in}
+use Rattle.and_events.specs.Places.{Handles}
+use Rattle.and_kept.specs.Moves.{source_in}
 use Rattle.and_book.specs.Enabling.{CanProgramme, IsBusy, IsStill, CanDo, Acts}
 use Rattle.and_book.proofs.Taking.{takes_from}
 

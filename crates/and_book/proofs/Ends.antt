@@ -14,7 +14,7 @@ use Rattle.and_events.specs.declared.event.Node.TheVariants.{Host, Gate}
 use Rattle.and_events.specs.declared.event.Queue.TheVariants.{Wire}
 use Rattle.and_events.specs.declared.event.Endpoint.{Endpoint}
 use Rattle.and_events.specs.declared.plan.Settings.{Settings}
-use Rattle.and_book.specs.Settling.{queue_to, end_to}
+use Rattle.and_kept.specs.Settling.{queue_to, end_to}
 
 abbrev pub Within : Plan → State → Type 0
 Within plan s = (q : ℕ) → length (queue_at s.flow.queues q) ≤ capacity_at plan.settings q

@@ -26,7 +26,8 @@ use Rattle.and_events.specs.Legal.{entries_at}
 use Rattle.and_events.specs.Run.{Run}
 use Rattle.and_events.specs.Sound.{IsSound, IsBuilt}
 use Rattle.and_laws.proofs.Programmed.{programmed}
-use Rattle.and_book.specs.Settling.{LeadsRouted, LeadsLocated, LeadsGate, IsGateDecision}
+use Rattle.and_kept.specs.Settling.{LeadsRouted, LeadsLocated, LeadsGate}
+use Rattle.and_book.specs.Settling.{IsGateDecision}
 use Rattle.and_book.proofs.Known.{IsKnown, known_log}
 
 -- ---- places

@@ -1,11 +1,10 @@
 pub mod Plans
 pub mod More
-pub mod Steps
+pub mod Stepping
 pub mod Taking
 pub mod Known
 pub mod Ends
 pub mod Injecting
-pub mod Sent
 pub mod Leading
 pub mod Open
 pub mod Settled
@@ -16,8 +15,9 @@ pub mod Departing
 pub mod NetTable
 pub mod Carrying
 pub mod Outgoing
+pub mod FromHand
+pub mod Settling
 pub mod Enabled
 pub mod Due
 pub mod Next
 pub mod Telling
-pub mod TestsLemmas

@@ -1,6 +1,8 @@
 -- One more line keeps a book.
+use Rattle.and_events.specs.declared.plan.Settings.{Settings}
+use Rattle.and_events.specs.Flow.{Flow}
 use Rattle.std.proofs.Common.{◌≡◌, ℕ, ◌+◌, ◌-◌, ◌≤◌, vec_len, vec_capacity, List, [], ◌∷◌, ◌++◌, length, refl, sym, ap, ◌∙◌, subst, arith, replicate, cond, Option, None}
-use Rattle.std.specs.Prelude.{slice_index, slice_index_or, is_some}
+use Rattle.std.specs.Prelude.{slice_index_or, is_some}
 use Rattle.std.specs.List.{All, count_by}
 use Rattle.std.proofs.lemmas.Grind.{fold-append}
 use Rattle.std.proofs.lemmas.List.Elements.{All-push, All-nil}
@@ -37,7 +39,7 @@ state_more plan e h g is = ap (state plan) (sym is)
 -- what is kept after an event, whose state before it is s
 pub record IsAfter (plan : Plan) (s : State) (e : Event) (k k' : Kept) : Type 0 where
   pub stands : Stands k' (after plan s e)
-  pub capacities : k'.roads.capacities ≡ k.roads.capacities
+  pub settings : k'.roads.settings ≡ k.roads.settings
   pub limit : k'.progress.limit ≡ k.progress.limit
   pub vms : k'.progress.vms ≡ k.progress.vms
   pub nets : k'.nets ≡ k.nets
@@ -58,7 +60,7 @@ keeps_more plan threads lines lines' k k' spare spare' seat e keeps legal seated
           (All-push (λ (x : Line). x.seat ≡ seat_of threads plan.settings (actor_of x.event)) lines l keeps.seats seated);
       stands = stands;
       sized = record {
-        capacities = λ q h. ap (λ c. slice_index c q) follows.capacities ∙ keeps.sized.capacities q h;
+        settings = follows.settings ∙ keeps.sized.settings;
         limit = follows.limit ∙ keeps.sized.limit;
         vms = follows.vms ∙ keeps.sized.vms;
         nets = λ vm. ap (λ ns. slice_index_or ns vm 0) follows.nets ∙ keeps.sized.nets vm;
@@ -69,6 +71,10 @@ keeps_more plan threads lines lines' k k' spare spare' seat e keeps legal seated
       sizes = subst (HasSizes plan) (sym stands.flow) (sizes plan (past lines'));
       nodes = subst (HasNodes plan) (sym stands.programmes) (nodes_of plan (past lines'));
     }
+
+-- what is read off the traffic is so of the plan's settings and the state's packets
+pub as_kept : {A : Type 0} (plan : Plan) (s : State) (k : Kept) (g : Settings → Flow → A) → k.roads.settings ≡ plan.settings → k.roads.flow ≡ s.flow → g k.roads.settings k.roads.flow ≡ g plan.settings s.flow
+as_kept plan s k g settings flow = ap (λ v. g v k.roads.flow) settings ∙ ap (g plan.settings) flow
 
 -- what holds of a book's view holds of its fields
 pub seen : (x : Inside) (b : BookView) → view_of x ≡ b → (P : BookView → Type 0) → P b → P (view_of x)

@@ -8,7 +8,8 @@ use Rattle.and_events.specs.Places.{hand_place, queue_place, node_of, IsActor}
 use Rattle.and_events.specs.Flow.{queue_at, hand_at}
 use Rattle.and_events.specs.State.{State}
 use Rattle.and_events.specs.Legal.{Enabled, CanTake, HasHand}
-use Rattle.and_book.specs.Views.{Handles, MayTake}
+use Rattle.and_events.specs.Places.{Handles}
+use Rattle.and_book.specs.Views.{MayTake}
 use Rattle.and_book.proofs.Enabled.{source_is}
 
 module _ (plan : Plan) (s : State) where

@@ -7,40 +7,26 @@ use Rattle.std.proofs.lemmas.Grind.{common_steps}
 use Rattle.std.proofs.lemmas.List.{map-set, map-append, drop-map}
 use Rattle.std.proofs.lemmas.List.Elements.{All-nil, All-cons, All-head, All-tail, All-push, All-drop, All-replicate}
 use Rattle.std.proofs.lemmas.List.Sums.{sum_by-cons}
-use Rattle.and_policy.specs.declared.decision.GateDecision.{GateDecision}
-use Rattle.and_policy.specs.declared.decision.GateDecision.TheVariants as decisions
 use Rattle.and_policy.specs.declared.packet.Tuple.{Tuple}
 use Rattle.and_policy.specs.FlowHash.{flow_hash}
 use Rattle.and_policy.specs.Outer.{outer_packet, entropy_port}
 use Rattle.and_parcel.specs.Parcels.{ParcelView}
 use Rattle.and_events.specs.declared.event.Actor.{Actor}
 use Rattle.and_events.specs.declared.event.Actor.TheVariants.{HostInstall, GateInstall, Worker, Coproc, Gateway, Controller, Driver}
-use Rattle.and_events.specs.declared.event.Arrival.{Arrival}
-use Rattle.and_events.specs.declared.event.Arrival.TheVariants as arrivals
-use Rattle.and_events.specs.declared.event.Carried.{Carried}
-use Rattle.and_events.specs.declared.event.Departure.{Departure}
-use Rattle.and_events.specs.declared.event.Departure.TheVariants.{NoVm, Spoofed, Denied, Allowed}
-use Rattle.and_events.specs.declared.event.End.{End}
-use Rattle.and_events.specs.declared.event.End.TheVariants.{Queued, Full, Hops}
 use Rattle.and_events.specs.declared.event.Endpoint.{Endpoint}
-use Rattle.and_events.specs.declared.event.Endpoint.TheVariants as endpoints
 use Rattle.and_events.specs.declared.event.Event.{Event}
 use Rattle.and_events.specs.declared.event.Event.TheVariants.{Append, Inject, Wait, Finish, Announce, Installed, Take}
 use Rattle.and_events.specs.declared.event.Held.{Held}
 use Rattle.and_events.specs.declared.event.Node.{Node}
 use Rattle.and_events.specs.declared.event.Node.TheVariants.{Host, Gate}
-use Rattle.and_events.specs.declared.event.Passage.{Passage}
-use Rattle.and_events.specs.declared.event.Passage.TheVariants as passages
 use Rattle.and_events.specs.declared.event.Queue.{Queue}
 use Rattle.and_events.specs.declared.event.Queue.TheVariants.{Wire}
-use Rattle.and_events.specs.declared.event.Return.{Return}
-use Rattle.and_events.specs.declared.event.Return.TheVariants as returns
 use Rattle.and_events.specs.declared.plan.Plan.{Plan}
 use Rattle.and_events.specs.declared.plan.Settings.{Settings}
 use Rattle.and_events.specs.Places.{hand_place, queue_place, queue_count, node_of, actor_of, IsNode, IsActor}
 use Rattle.and_events.specs.Flow.{Flow, Move, Stay, Enter, Lose, Grab, Send, SealLater, Stop, flow_after, enter_by, carried_in, queue_at, hand_at, pushed, popped}
 use Rattle.and_events.specs.OuterPackets.{Sent, sent_by_move, source_address, endpoint_address}
-use Rattle.and_events.specs.State.{State, state, move_of, send, departs, passes, goes_back, arrives, dest_endpoint, dest_net, tuple_at, frame_at, carried_at}
+use Rattle.and_events.specs.State.{State, state, move_of, tuple_at, frame_at, carried_at}
 use Rattle.and_events.specs.Legal.{Legal}
 use Rattle.and_events.specs.Run.{Run, sends}
 use Rattle.and_events.specs.Sound.{IsSound, IsBuilt}
@@ -55,9 +41,10 @@ use Rattle.and_laws.proofs.Sizes.{sizes}
 use Rattle.and_laws.proofs.Unique.{in_no_queue}
 use Rattle.and_kept.specs.Lanes.{Roads, parcels_at, with_parcel, without_first}
 use Rattle.and_book.specs.Inside.{HasParcels}
-use Rattle.and_book.specs.Outers.{newer_sent, last_sent, IsSentBy, wrapped, parcels_moved}
-use Rattle.and_book.specs.Settling.{passage_of, return_of, gate_move}
-use Rattle.and_book.specs.Views.{IsPacket, Handles}
+use Rattle.and_book.specs.Outers.{newer_sent, last_sent, IsSentBy}
+use Rattle.and_kept.specs.Outers.{wrapped, parcels_moved}
+use Rattle.and_book.specs.Views.{IsPacket}
+use Rattle.and_events.specs.Places.{Handles}
 use Rattle.and_book.proofs.Carrying.{IsPlainMove, event_plain, plain_flow}
 use Rattle.and_book.proofs.Injecting.{all_with, all_entered}
 use Rattle.and_book.proofs.Taking.{all_without_first, first_of}
@@ -335,43 +322,6 @@ none_yet plan roads n parcels queues =
     }
 
 -- ---- settled packets
-
-module _ (v : Settings) (a i : ℕ) where
-  send_of : (end : End) (target : Endpoint) (net : ℕ) → IsOf i (send v a i end target net)
-  send_of Queued target net = refl
-  send_of Full target net = refl
-  send_of Hops target net = refl
-
-  pub departs_of : (own : ℕ) (here : Node) (d : Departure) → IsOf i (departs v own a i here d)
-  departs_of own here NoVm = refl
-  departs_of own here Spoofed = refl
-  departs_of own here (Denied n) = refl
-  departs_of own here (Allowed by true dest Queued) = refl
-  departs_of own here (Allowed by true dest Full) = refl
-  departs_of own here (Allowed by true dest Hops) = refl
-  departs_of own here (Allowed by false dest end) = send_of end (dest_endpoint dest) (dest_net own dest)
-
-  passes_of : (p : Passage) → IsOf i (passes v a i p)
-  passes_of (passages.Send by net host end) = send_of end (endpoints.Host host) net
-  passes_of (passages.Dropped by) = refl
-  passes_of (passages.NoOwner by) = refl
-  passes_of (passages.Hops by) = refl
-
-  returns_of : (c : Carried) (b : Return) → IsOf i (goes_back v c a i b)
-  returns_of c (returns.Send host end) = send_of end (endpoints.Host host) c.net
-  returns_of c returns.NoOwner = refl
-  returns_of c returns.Hops = refl
-
-  pub arrives_of : (c : Carried) (x : Arrival) → IsOf i (arrives v c a i x)
-  arrives_of c (arrivals.Hairpin vm host end) = send_of end (endpoints.Host host) c.net
-  arrives_of c (arrivals.Absent vm g end) = send_of end (endpoints.Redirect g) c.net
-  arrives_of c arrivals.NoOwner = refl
-  arrives_of c (arrivals.Running vm by pass) = refl
-  arrives_of c (arrivals.Blackout vm) = refl
-
-  pub gate_of : (f : Flow) (d : GateDecision) → IsOf i (gate_move v f a i d)
-  gate_of f (decisions.Routed at said) = passes_of (passage_of v f i said)
-  gate_of f (decisions.Located at said) = returns_of (carried_in f.carried i) (return_of v f i said)
 
 -- the packet in a hand is settled by an event
 pub settles : (plan : Plan) (h : List Event) (e : Event) (a : Actor) (need : ℕ) (q : Queue) (p : ParcelView) (here : Node) (x : Tuple) (m : Move) (roads roads' : Roads) →

@@ -18,7 +18,7 @@ use Rattle.and_events.specs.State.{State, state, start, after, ports_move_of, po
 use Rattle.and_events.specs.Legal.{Legal}
 use Rattle.and_events.specs.Run.{Run}
 use Rattle.and_events.specs.Sound.{IsBuilt, IsBuiltEntry}
-use Rattle.and_book.specs.Settling.{LeadsPort, LeadsLanding}
+use Rattle.and_kept.specs.Settling.{LeadsPort, LeadsLanding}
 use Rattle.and_policy.specs.declared.decision.Landing.{Landing}
 use Rattle.and_policy.specs.declared.decision.Landing.TheVariants as landings
 use Rattle.and_book.proofs.Known.{built_step, built_entry}

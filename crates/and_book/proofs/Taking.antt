@@ -1,4 +1,10 @@
 -- A take is legal, and what is kept after it.
+use Rattle.std.proofs.lemmas.Nat.{mul-add-lt}
+use Rattle.and_events.specs.declared.plan.Settings.{Settings}
+use Rattle.and_events.specs.Places.{hand_count, IsActor}
+use Rattle.and_laws.specs.Sizes.{HasSizes}
+use Rattle.and_kept.specs.Moves.{taken}
+use Rattle.and_book.proofs.More.{as_kept}
 use Rattle.std.proofs.Common.{◌≡◌, ℕ, zero, suc, ◌+◌, ◌<◌, ◌≤◌, true, false, List, [], ◌∷◌, length, drop, get_or, refl, sym, ap, ◌∙◌, subst, arith, Option, Some, None}
 use Rattle.std.specs.Prelude.{nat_lt, slice_get, is_some, if◌then◌else◌}
 use Rattle.std.specs.List.{All}
@@ -22,7 +28,9 @@ use Rattle.and_events.specs.Legal.{Legal, TakesFrom}
 use Rattle.and_laws.specs.Fates.{in_hand_count}
 use Rattle.and_kept.specs.Lanes.{Roads, parcels_at, without_first}
 use Rattle.and_kept.proofs.Counts.{count_set}
-use Rattle.and_book.specs.Views.{MayTake, Handles, source_in}
+use Rattle.and_book.specs.Views.{MayTake}
+use Rattle.and_events.specs.Places.{Handles}
+use Rattle.and_kept.specs.Moves.{source_in}
 use Rattle.and_book.specs.Inside.{Kept, Stands}
 use Rattle.and_book.proofs.More.{IsAfter}
 
@@ -58,37 +66,45 @@ legal_take plan s a q i may is front = record {
   front = first (queue_at s.flow.queues (queue_place plan.settings (node_of a) q)) i front;
 }
 
-pub after_take : (plan : Plan) (s : State) (k : Kept) (roads : Roads) (a : Actor) (held : Held) (hand from need : ℕ) (q : Queue) → Stands k s → hand ≡ hand_place plan.settings a → from ≡ queue_place plan.settings (node_of a) q → need ≡ installed_of plan s (node_of a)
-    → held ≡ record { packet = held.packet; need = need; queue = q } → roads.flow ≡ flow_after k.roads.flow (Grab hand from held) → roads.capacities ≡ k.roads.capacities
-    → IsAfter plan s (Take a q held.packet) k (record k { roads = roads })
+pub after_take : (plan : Plan) (s : State) (k : Kept) (a : Actor) (held : Held) → Stands k s → k.roads.settings ≡ plan.settings → held.need ≡ installed_of plan s (node_of a) → IsAfter plan s (Take a held.queue held.packet) k (record k { roads = taken k.roads a held })
 unfolding after move_of word_of ports_move_of step_of ports_after programmes_after
-after_take plan s k roads a held hand from need q st there source is grabbed moved same =
+after_take plan s k a held st settings need =
     record {
       stands = record {
         next = st.next;
         programmes = st.programmes;
         ports = st.ports;
-        flow =
-            moved
-            ∙ (ap (λ f. flow_after f (Grab hand from held)) st.flow
-            ∙ (ap (λ n. flow_after s.flow (Grab n from held)) there
-            ∙ (ap (λ n. flow_after s.flow (Grab (hand_place plan.settings a) n held)) source
-            ∙ ap (λ h. flow_after s.flow (Grab (hand_place plan.settings a) (queue_place plan.settings (node_of a) q) h))
-            (grabbed ∙ ap (λ n. record { packet = held.packet; need = n; queue = q }) is))));
+        flow = as_kept plan s k (λ v f. flow_after f (Grab (hand_place v a) (queue_place v (node_of a) held.queue) held)) settings st.flow
+            ∙ ap (λ n. flow_after s.flow (Grab (hand_place plan.settings a) (queue_place plan.settings (node_of a) held.queue) (record { packet = held.packet; need = n; queue = held.queue }))) need;
       };
-      capacities = same;
+      settings = refl;
       limit = refl;
       vms = refl;
       nets = refl;
     }
 
 -- one more hand is full
-pub one_held : (f f' : Flow) (hand from : ℕ) (h : Held) → hand < length f.hands → f' ≡ flow_after f (Grab hand from h) → in_hand_count f' ≤ in_hand_count f + 1
+pub one_held : (f : Flow) (hand from : ℕ) (h : Held) → hand < length f.hands → in_hand_count (flow_after f (Grab hand from h)) ≤ in_hand_count f + 1
 unfolding flow_after
-one_held f f' hand from h there is =
+one_held f hand from h there =
     let none : Option Held = None in
     let written = count_set is_some f.hands hand (Some h) none there in
-    omega (arith, written, ap in_hand_count is)
+    omega (arith, written)
+
+-- each actor that takes packets has its hand
+hand_there : (v : Settings) (a : Actor) → IsActor v a → Handles a → hand_place v a < hand_count v
+hand_there v (Worker h w) is t = let l = mul-add-lt h v.workers w v.hosts is.0 is.1 in omega (arith, l)
+hand_there v (Coproc h) is t = omega (arith, is)
+hand_there v (Gateway g) is t = omega (arith, is)
+hand_there v (HostInstall h) is t = absurd t
+hand_there v (GateInstall g) is t = absurd t
+hand_there v Controller is t = absurd t
+hand_there v Driver is t = absurd t
+
+pub hand_fits : (plan : Plan) (roads : Roads) → roads.settings ≡ plan.settings → HasSizes plan roads.flow → (a : Actor) → IsActor plan.settings a → Handles a → hand_place roads.settings a < length roads.flow.hands
+hand_fits plan roads settings sizes a is t =
+    let there = hand_there plan.settings a is t in
+    omega (arith, there, sizes.hands, ap (λ v. hand_place v a) settings)
 
 -- ---- parcels
 

@@ -14,7 +14,7 @@ use Rattle.and_events.specs.Flow.{Flow, queue_at, hand_at}
 use Rattle.and_events.specs.Programming.{Programmes, HasInstalled, programme_at, announced_at, installed_at}
 use Rattle.and_events.specs.State.{no_packet}
 use Rattle.and_events.specs.Legal.{added_at}
-use Rattle.and_book.specs.Views.{source_in}
+use Rattle.and_kept.specs.Moves.{source_in}
 
 -- the node at this place may announce or install
 abbrev pub CanProgramme : Programmes → ℕ → Type 0

@@ -1,5 +1,5 @@
 -- How a book's fields stand for the state after its lines.
-use Rattle.std.specs.Prelude.{◌≡◌, ℕ, ◌-◌, ◌<◌, ◌≤◌, List, length, map, slice_index, vec_len, vec_capacity}
+use Rattle.std.specs.Prelude.{◌≡◌, ℕ, ◌-◌, ◌≤◌, List, length, map, vec_len, vec_capacity}
 use Rattle.std.specs.List.{All}
 use Rattle.and_policy.specs.declared.port.Port.{Port}
 use Rattle.and_events.specs.declared.event.Event.{Event}
@@ -7,7 +7,7 @@ use Rattle.and_events.specs.declared.event.Line.{Line}
 use Rattle.and_events.specs.declared.event.Node.{Node}
 use Rattle.and_events.specs.declared.event.Queue.TheVariants.{Wire}
 use Rattle.and_events.specs.declared.plan.Plan.{Plan}
-use Rattle.and_events.specs.Places.{queue_count, queue_place, capacity_at, seat_of, actor_of, IsNode}
+use Rattle.and_events.specs.Places.{queue_place, seat_of, actor_of, IsNode}
 use Rattle.and_events.specs.State.{State, state}
 use Rattle.and_events.specs.Run.{Run, past}
 use Rattle.and_events.specs.Sound.{IsSound, IsBuilt}
@@ -16,7 +16,8 @@ use Rattle.and_laws.specs.Sizes.{HasSizes, HasNodes}
 use Rattle.and_kept.specs.Lanes.{Roads, parcels_at}
 use Rattle.and_kept.specs.Nodes.{Progressed}
 use Rattle.and_book.specs.declared.book.Book.TheInside.{Inside}
-use Rattle.and_book.specs.Views.{BookView, IsSmall, IsPacket}
+use Rattle.and_book.specs.Views.{BookView, IsPacket}
+use Rattle.and_events.specs.Places.{IsSmall}
 use Rattle.and_book.specs.Nets.{HasNets}
 use Rattle.and_book.specs.Outers.{IsSentBy}
 
@@ -41,9 +42,9 @@ pub record Stands (k : Kept) (s : State) : Type 0 where
   pub ports : k.ports ≡ s.ports
   pub flow : k.roads.flow ≡ s.flow
 
--- what never changes in it: the queues' capacities, for how many entries and VMs there is room, and the VMs' networks
+-- what never changes in it: the settings, for how many entries and VMs there is room, and the VMs' networks
 pub record IsSized (plan : Plan) (k : Kept) : Type 0 where
-  pub capacities : (q : ℕ) → q < queue_count plan.settings → slice_index k.roads.capacities q ≡ capacity_at plan.settings q
+  pub settings : k.roads.settings ≡ plan.settings
   pub limit : k.progress.limit ≡ length plan.log
   pub vms : k.progress.vms ≡ length plan.names
   pub nets : HasNets k.nets plan.log

@@ -1,16 +1,9 @@
 -- The outer headers that a parcel carries: those of the send that put it where it is.
-use Rattle.std.specs.Prelude.{◌≡◌, ℕ, ◌==◌, false, if◌then◌else◌, List, [], ◌∷◌, Option, Some, None}
-use Rattle.and_policy.specs.declared.packet.Tuple.{Tuple}
-use Rattle.and_policy.specs.FlowHash.{flow_hash}
-use Rattle.and_policy.specs.Outer.{outer_header, entropy_port}
+use Rattle.std.specs.Prelude.{◌≡◌, ℕ, ◌==◌, if◌then◌else◌, List, [], ◌∷◌, Option, Some, None}
 use Rattle.and_parcel.specs.Parcels.{ParcelView, wire_of}
-use Rattle.and_events.specs.declared.event.Node.{Node}
-use Rattle.and_events.specs.declared.event.Endpoint.{Endpoint}
 use Rattle.and_events.specs.declared.event.Event.{Event}
 use Rattle.and_events.specs.declared.plan.Plan.{Plan}
-use Rattle.and_events.specs.Flow.{Move, Send, SealLater}
-use Rattle.and_events.specs.OuterPackets.{Sent, sent_by, sent_bytes, source_address, endpoint_address}
-use Rattle.and_kept.specs.Lanes.{with_parcel}
+use Rattle.and_events.specs.OuterPackets.{Sent, sent_by, sent_bytes}
 
 -- ---- what a parcel on the underlay carries
 
@@ -29,26 +22,3 @@ pub record IsSentBy (plan : Plan) (h : List Event) (p : ParcelView) : Type 0 whe
   pub sent : Sent
   pub newest : last_sent plan h p.packet ≡ Some sent
   pub bytes : wire_of p ≡ sent_bytes plan sent
-
--- ---- what becomes of a parcel in hand
-
--- the parcel with the outer headers of a send: from which node, the tuple, the hops left, the network, and whereto
-abbrev pub wrapped : Node → Tuple → ℕ → ParcelView → ℕ → Endpoint → ParcelView
-wrapped here x hops p net target =
-    record p {
-      header = outer_header (record {
-        source = source_address here;
-        destination = endpoint_address target;
-        ttl = hops;
-        vni = net;
-        source_port = entropy_port (flow_hash x);
-        sealed = false;
-      }) p.frame;
-    }
-
--- the parcels in the queues after its move: a send puts it into its queue with outer headers, and what is to be sealed waits as
--- it is
-abbrev pub parcels_moved : Node → Tuple → ℕ → List (List ParcelView) → ParcelView → Move → List (List ParcelView)
-parcels_moved here x hops parcels p (Send a q i net target) = with_parcel parcels q (wrapped here x hops p net target)
-parcels_moved here x hops parcels p (SealLater a q i net target) = with_parcel parcels q p
-parcels_moved here x hops parcels p _ = parcels

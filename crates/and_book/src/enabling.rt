@@ -3,25 +3,11 @@ ghost use Rattle.std.specs.Prelude.{◌≡◌, ◌↔◌, ◌⊎◌, ◌+◌, �
 ghost use Rattle.and_events.specs.declared.event.Held as held;
 ghost use Rattle.and_events.specs.Flow.{queue_at, hand_at};
 ghost use Rattle.and_events.specs.Places as places;
-ghost use Rattle.and_events.specs.Places.{node_count, queue_count, hand_count, IsNode, IsActor};
-ghost use Rattle.and_book.specs.Views.{IsSmall, Handles};
+ghost use Rattle.and_events.specs.Places.{node_count, IsNode, IsActor, Handles, HasQueue};
 ghost use Rattle.and_book.specs.Enabling.{CanProgramme, IsBusy, IsStill, IsKnownAtHome, CanDo, IsInjectable, CanAct, Acts, vm_in};
 
-use crate::places::{hand_place, node_of, node_place, queue_place, source};
-use and_events::{Actor, Items, Node, Packet, Settings, Step};
+use and_events::{Actor, Items, Node, Packet, Queue, Step, is_actor, node_of};
 use and_kept::{Progress, Traffic};
-
-// Whether it is an actor of these settings.
-fn is_actor(settings: Settings, actor: Actor) -> bool
-    ensures { IsTrue result ↔ IsActor settings actor }
-{
-    match actor {
-        Actor::HostInstall(host) | Actor::Coproc(host) => host < settings.hosts,
-        Actor::GateInstall(gateway) | Actor::Gateway(gateway) => gateway < settings.gateways,
-        Actor::Worker { host, index } => host < settings.hosts && index < settings.workers,
-        Actor::Controller | Actor::Driver => true,
-    }
-}
 
 // Whether the node at a place may announce or install.
 fn can_programme(progress: &Progress, node: usize) -> bool
@@ -34,23 +20,25 @@ fn can_programme(progress: &Progress, node: usize) -> bool
     (announced == installed && (announced as usize) < count) || installed < announced
 }
 
-// Whether a packet is in the hand at a place.
-fn has_hand(traffic: &Traffic, hand: usize) -> bool
-    requires { hand < length traffic.now.flow.hands }
-    ensures { IsTrue result ↔ ((h : held.Held) × (hand_at traffic.now.flow.hands hand ≡ Some h)) }
+// Whether a packet is in the actor's hand.
+fn has_hand(traffic: &Traffic, actor: Actor) -> bool
+    requires actor { IsActor traffic.now.settings actor }
+    requires handles { Handles actor }
+    ensures { IsTrue result ↔ ((h : held.Held) × (hand_at traffic.now.flow.hands (places.hand_place traffic.now.settings actor) ≡ Some h)) }
 {
-    match traffic.hand(hand) {
+    match traffic.hand(actor) {
         Some(_) => true,
         None => false,
     }
 }
 
-// Whether a packet is in the queue at a place.
-fn has_queued(traffic: &Traffic, queue: usize) -> bool
-    requires { queue < length traffic.now.flow.queues }
-    ensures { IsTrue result ↔ (queue_at traffic.now.flow.queues queue ≡ [] → ⊥) }
+// Whether a packet is in the queue.
+fn has_queued(traffic: &Traffic, node: Node, queue: Queue) -> bool
+    requires node { IsNode traffic.now.settings node }
+    requires there { HasQueue node queue }
+    ensures { IsTrue result ↔ (queue_at traffic.now.flow.queues (places.queue_place traffic.now.settings node queue) ≡ [] → ⊥) }
 {
-    !traffic.is_empty(queue)
+    !traffic.is_empty(node, queue)
 }
 
 // Whether one of the two holds.
@@ -61,19 +49,15 @@ fn either(a: bool, b: bool) -> bool
 }
 
 // Whether the actor has a packet in hand, or finds one in its queue.
-fn is_busy(settings: Settings, traffic: &Traffic, actor: Actor) -> bool
-    requires small { IsSmall settings }
-    requires queues { length traffic.now.flow.queues ≡ queue_count settings }
-    requires hands { length traffic.now.flow.hands ≡ hand_count settings }
-    requires actor { IsActor settings actor }
+#[tactic(auto, using(crate::proofs::Outgoing::handles_node))]
+fn is_busy(traffic: &Traffic, actor: Actor) -> bool
+    requires actor { IsActor traffic.now.settings actor }
     requires handles { Handles actor }
-    ensures { IsTrue result ↔ IsBusy settings traffic.now.flow actor }
+    ensures { IsTrue result ↔ IsBusy traffic.now.settings traffic.now.flow actor }
 {
-    let hand = hand_place(settings, actor);
-    let queue = source(settings, traffic, actor);
-    let from = queue_place(settings, node_of(actor), queue);
-    let has = has_hand(traffic, hand);
-    let finds = has_queued(traffic, from);
+    let queue = traffic.source(actor);
+    let has = has_hand(traffic, actor);
+    let finds = has_queued(traffic, node_of(actor), queue);
     either(has, finds)
 }
 
@@ -110,20 +94,19 @@ fn vm_of(packets: &Items<Packet>, packet: u32) -> u32
 
 // Whether the condition of the step that is due holds.
 fn can_do(
-    settings: Settings,
     packets: &Items<Packet>,
     progress: &Progress,
     traffic: &Traffic,
     due: Option<Step>,
 ) -> bool
-    requires nodes { length progress.now.programmes.ops ≡ node_count settings }
+    requires nodes { length progress.now.programmes.ops ≡ node_count traffic.now.settings }
     requires injectable { IsInjectable packets.now progress.now.vms due }
-    ensures { IsTrue result ↔ CanDo settings packets.now progress.now.programmes traffic.now.flow due }
+    ensures { IsTrue result ↔ CanDo traffic.now.settings packets.now progress.now.programmes traffic.now.flow due }
 {
     match due {
         Some(Step::Append(_)) => true,
         Some(Step::Inject { packet }) => {
-            is_known_at_home(progress, settings.hosts, vm_of(packets, packet))
+            is_known_at_home(progress, traffic.settings().hosts, vm_of(packets, packet))
         }
         Some(Step::Wait | Step::Finish) => is_still(progress, traffic),
         _ => false,
@@ -132,49 +115,44 @@ fn can_do(
 
 // Whether an actor that is there may act.
 fn acts(
-    settings: Settings,
     packets: &Items<Packet>,
     progress: &Progress,
     traffic: &Traffic,
     due: Option<Step>,
     actor: Actor,
 ) -> bool
-    requires small { IsSmall settings }
-    requires nodes { length progress.now.programmes.ops ≡ node_count settings }
-    requires queues { length traffic.now.flow.queues ≡ queue_count settings }
-    requires hands { length traffic.now.flow.hands ≡ hand_count settings }
+    requires nodes { length progress.now.programmes.ops ≡ node_count traffic.now.settings }
     requires injectable { IsInjectable packets.now progress.now.vms due }
-    requires actor { IsActor settings actor }
-    ensures { IsTrue result ↔ Acts settings packets.now progress.now.programmes traffic.now.flow due actor }
+    requires actor { IsActor traffic.now.settings actor }
+    ensures { IsTrue result ↔ Acts traffic.now.settings packets.now progress.now.programmes traffic.now.flow due actor }
 {
     match actor {
         Actor::HostInstall(host) => can_programme(progress, host as usize),
         Actor::GateInstall(gateway) => {
-            can_programme(progress, settings.hosts as usize + gateway as usize)
+            can_programme(
+                progress,
+                traffic.settings().hosts as usize + gateway as usize,
+            )
         }
         Actor::Controller => false,
-        Actor::Driver => can_do(settings, packets, progress, traffic, due),
-        Actor::Worker { .. } => is_busy(settings, traffic, actor),
-        Actor::Coproc(_) => is_busy(settings, traffic, actor),
-        Actor::Gateway(_) => is_busy(settings, traffic, actor),
+        Actor::Driver => can_do(packets, progress, traffic, due),
+        Actor::Worker { .. } => is_busy(traffic, actor),
+        Actor::Coproc(_) => is_busy(traffic, actor),
+        Actor::Gateway(_) => is_busy(traffic, actor),
     }
 }
 
 /// Whether the actor may act, by what is kept.
 pub(crate) fn can_act(
-    settings: Settings,
     packets: &Items<Packet>,
     progress: &Progress,
     traffic: &Traffic,
     due: Option<Step>,
     actor: Actor,
 ) -> bool
-    requires small { IsSmall settings }
-    requires nodes { length progress.now.programmes.ops ≡ node_count settings }
-    requires queues { length traffic.now.flow.queues ≡ queue_count settings }
-    requires hands { length traffic.now.flow.hands ≡ hand_count settings }
+    requires nodes { length progress.now.programmes.ops ≡ node_count traffic.now.settings }
     requires injectable { IsInjectable packets.now progress.now.vms due }
-    ensures { IsTrue result ↔ CanAct settings packets.now progress.now.programmes traffic.now.flow due actor }
+    ensures { IsTrue result ↔ CanAct traffic.now.settings packets.now progress.now.programmes traffic.now.flow due actor }
 {
-    is_actor(settings, actor) && acts(settings, packets, progress, traffic, due, actor)
+    is_actor(traffic.settings(), actor) && acts(packets, progress, traffic, due, actor)
 }

@@ -12,13 +12,10 @@
 
 mod book;
 mod enabling;
+mod installs;
+mod looks;
 mod nets;
-mod outers;
-mod places;
-mod sending;
+mod packets;
+mod steps;
 
 pub use book::Book;
-pub use places::{hand_place, node_of};
-
-#[cfg(test)]
-mod tests;

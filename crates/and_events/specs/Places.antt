@@ -1,5 +1,5 @@
 -- Nodes, queues, hands and actors by number.
-use Rattle.std.specs.Prelude.{◌≡◌, ℕ, ◌+◌, ◌*◌, ◌%◌, ◌<◌, ◌==◌, nat_lt, if◌then◌else◌}
+use Rattle.std.specs.Prelude.{◌≡◌, ℕ, ◌+◌, ◌*◌, ◌%◌, ◌<◌, ◌≤◌, ◌==◌, nat_lt, if◌then◌else◌}
 use Rattle.and_events.specs.declared.event.Node.{Node}
 use Rattle.and_events.specs.declared.event.Node.TheVariants.{Host, Gate}
 use Rattle.and_events.specs.declared.event.Actor.{Actor}
@@ -9,6 +9,12 @@ use Rattle.and_events.specs.declared.event.Queue.TheVariants.{Out, Wire, Seal}
 use Rattle.and_events.specs.declared.event.Event.{Event}
 use Rattle.and_events.specs.declared.event.Event.TheVariants.{Append, Review, Hold, Free, Wait, Inject, Blackout, Resume, Finish, Announce, Installed, Take, Egress, Sealed, Route, Redirect, Ingress, Unpin}
 use Rattle.and_events.specs.declared.plan.Settings.{Settings}
+
+-- the settings are in their ranges
+pub record IsSmall (s : Settings) : Type 0 where
+  pub hosts : s.hosts ≤ 64
+  pub gateways : s.gateways ≤ 8
+  pub workers : s.workers ≤ 4
 
 abbrev pub node_count : Settings → ℕ
 node_count s = s.hosts + s.gateways
@@ -89,6 +95,13 @@ node_of (Coproc h) = Host h
 node_of (Gateway g) = Gate g
 node_of Controller = Host 0
 node_of Driver = Host 0
+
+-- the actors that take packets
+abbrev pub Handles : Actor → Type 0
+Handles (Worker h w) = Unit {0}
+Handles (Coproc h) = Unit {0}
+Handles (Gateway g) = Unit {0}
+Handles _ = ⊥
 
 -- the actors that decide at hosts, at gateways, and that seal
 abbrev pub IsWorker : Actor → Type 0

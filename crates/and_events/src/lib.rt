@@ -3,6 +3,7 @@
 
 mod event;
 mod items;
+mod places;
 mod plan;
 
 pub use event::{
@@ -10,4 +11,7 @@ pub use event::{
     Return,
 };
 pub use items::Items;
+pub use places::{
+    actor_at, actor_count, hand_place, host_of, is_actor, node_at, node_of, node_place, queue_place,
+};
 pub use plan::{Item, ItemFault, Packet, Plan, Scenario, Settings, SkipReason, Step, What};

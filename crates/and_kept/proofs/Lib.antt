@@ -4,4 +4,4 @@ pub mod HandsLemmas
 pub mod HomesLemmas
 pub mod NodesLemmas
 pub mod PortsLemmas
-pub mod TestsLemmas
+pub mod MovesLemmas

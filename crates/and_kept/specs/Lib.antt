@@ -1,2 +1,5 @@
 pub mod Lanes
 pub mod Nodes
+pub mod Outers
+pub mod Settling
+pub mod Moves

@@ -15,17 +15,17 @@
 mod count;
 mod hands;
 mod homes;
+mod outers;
 mod ports;
 mod programme;
 mod progress;
 mod queues;
+mod settling;
 mod traffic;
 
 pub use hands::Hands;
 pub use ports::PortTable;
 pub use progress::Progress;
 pub use queues::Queues;
-pub use traffic::Traffic;
-
-#[cfg(test)]
-mod tests;
+pub use settling::{settle_gate, settle_landing, settle_leaving};
+pub use traffic::{Holder, Traffic};

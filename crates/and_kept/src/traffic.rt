@@ -1,54 +1,79 @@
 //! Packets on their way.
-ghost use Rattle.std.specs.Prelude.{◌≡◌, ℕ, ◌+◌, ◌^◌, ◌<◌, ◌≤◌, ◌↔◌, List, [], length, IsTrue, IfOk, None, Some, replicate, slice_get, slice_index, slice_set, if◌then◌else◌};
+ghost use Rattle.std.specs.Prelude.{◌≡◌, ◌<◌, ◌↔◌, ◌^◌, [], length, IsTrue, IfOk, None, Some, replicate, slice_get, slice_set};
 ghost use Rattle.std.specs.List.{All};
-ghost use Rattle.and_events.specs.declared.event.Carried.{Carried};
-ghost use Rattle.and_events.specs.Places.{queue_count, hand_count, capacity_at};
-ghost use Rattle.and_events.specs.Flow.{Flow, Grab, Stop, flow_after, queue_at, hand_at, carried_in, sent, to_be_sealed, enter_by, send_by, seal_by, end_at, end_of_send};
-ghost use Rattle.and_kept.specs.Lanes.{Roads, parcels_at, with_parcel, without_first, parcels_after, unsent};
+ghost use Rattle.and_events.specs.Flow.{Stop, carried_in, flow_after, hand_at, queue_at, seal_by, sent, to_be_sealed};
+ghost use Rattle.and_events.specs.declared.event.Queue.TheVariants.{Seal};
+ghost use Rattle.and_events.specs.Places as places;
+ghost use Rattle.and_events.specs.Places.{queue_count, hand_count, IsActor, IsNode, Handles, HasQueue};
+ghost use Rattle.and_events.specs.State as states;
+ghost use Rattle.and_kept.specs.Settling.{end_to};
+ghost use Rattle.and_events.specs.Places.{IsSmall};
+ghost use Rattle.and_policy.specs.FlowHash.{gateway_of};
+ghost use Rattle.and_kept.specs.Lanes.{CarriedFits, parcels_at, unsent};
+ghost use Rattle.and_kept.specs.Moves.{MayMove, end_here, entered, finds_full_at, hand_of, moved, seal_of, source_in, source_place, taken};
 
 use crate::hands::Hands;
+use crate::outers::wrap_to;
 use crate::queues::Queues;
-use and_events::{Carried, End, Endpoint, Held, Queue, Settings};
+use and_events::{
+    Actor, Carried, End, Endpoint, Held, Node, Queue, Settings, hand_place, node_at, node_of,
+    queue_place,
+};
 use and_parcel::Parcel;
-use and_policy::NoMemory;
+use and_policy::{NoMemory, Tuple, flow_hash};
 use std::alloc::Global;
 use std::marker::Model;
 
+/// Who has a packet in hand, and the packet's tuple.
+#[derive(Clone, Copy)]
+pub struct Holder {
+    pub actor: Actor,
+    pub tuple: Tuple,
+}
+
 /// The packets of a run: the queues of parcels, what each actor has in hand, and what is known of each packet.
 ///
-/// Contracts see it as the definition's component, beside the parcels in the queues and the queues' capacities. A parcel
-/// that an actor takes is the actor's until it is sent on or let go.
+/// Contracts see it as the definition's component, beside its settings and the parcels in the queues. Its type says that
+/// each queue and each hand has its place and each queue its capacity, so no call asks for that. A parcel that an actor
+/// takes is the actor's until it is sent on or let go.
 #[derive(Drop)]
 pub struct Traffic {
+    settings: Settings,
     queues: Queues,
     hands: Hands,
     carried: Vec<Carried>,
 }
 
 impl Model for Traffic {
-    ghost use Rattle.and_kept.specs.Lanes.{Roads};
+    ghost use Rattle.and_kept.specs.Lanes.{Roads, IsShaped};
 
     ghost Value = { Roads };
 
     ghost view = { λ t. record {
+      settings = t.settings;
       flow = record { queues = t.queues.numbers; hands = t.hands; carried = t.carried.items };
       parcels = t.queues.parcels;
-      capacities = t.queues.capacities;
     } };
+
+    ghost invariant = { λ t. IsShaped t.settings t.queues t.hands t.carried.items };
 }
 
 #[tactic(auto, unfolding(and_events::specs::Flow::flow_after))]
 impl Traffic {
     /// Empty queues and hands, and so many packets that were not sent. All memory is taken here.
     pub fn make(alloc: Global, settings: Settings, packets: usize) -> Result<Traffic, NoMemory>
-        requires { settings.hosts + settings.gateways + settings.workers < 2 ^ 10 }
-        ensures flow { IfOk result (λ t. t.flow ≡ record {
-          queues = replicate (queue_count settings) [];
-          hands = replicate (hand_count settings) None;
-          carried = replicate packets (unsent settings);
+        requires small { IsSmall settings }
+        requires gateways { 0 < settings.gateways }
+        requires hops { settings.hop_limit < 2 ^ 8 }
+        ensures { IfOk result (λ t. t ≡ record {
+          settings = settings;
+          flow = record {
+            queues = replicate (queue_count settings) [];
+            hands = replicate (hand_count settings) None;
+            carried = replicate packets (unsent settings);
+          };
+          parcels = replicate (queue_count settings) [];
         }) }
-        ensures parcels { IfOk result (λ t. t.parcels ≡ replicate (queue_count settings) []) }
-        ensures capacities { IfOk result (λ t. (q : ℕ) → q < queue_count settings → slice_index t.capacities q ≡ capacity_at settings q) }
     {
         let queues = Queues::make(alloc, settings)?;
         let hosts = settings.hosts as usize;
@@ -62,6 +87,7 @@ impl Traffic {
         };
         match vec![in alloc; new; packets] {
             Ok(carried) => Ok(Traffic {
+                settings,
                 queues,
                 hands,
                 carried,
@@ -70,12 +96,21 @@ impl Traffic {
         }
     }
 
-    /// Whether the queue is empty.
-    pub fn is_empty(&self, queue: usize) -> bool
-        requires { queue < length self.now.flow.queues }
-        ensures { IsTrue result ↔ (queue_at self.now.flow.queues queue ≡ []) }
+    /// The settings.
+    pub fn settings(&self) -> Settings
+        ensures { result ≡ self.now.settings }
     {
-        self.queues.is_empty(queue)
+        self.settings
+    }
+
+    /// Whether the queue is empty.
+    pub fn is_empty(&self, node: Node, queue: Queue) -> bool
+        requires node { IsNode self.now.settings node }
+        requires there { HasQueue node queue }
+        ensures { IsTrue result ↔ (queue_at self.now.flow.queues (places.queue_place self.now.settings node queue) ≡ []) }
+    {
+        self.queues
+            .is_empty(queue_place(self.settings, node, queue))
     }
 
     /// Whether all queues are empty.
@@ -92,104 +127,103 @@ impl Traffic {
         self.hands.are_empty()
     }
 
-    /// What is in the hand.
-    pub fn hand(&self, hand: usize) -> Option<Held>
-        requires { hand < length self.now.flow.hands }
-        ensures { result ≡ hand_at self.now.flow.hands hand }
+    /// What is in the actor's hand.
+    pub fn hand(&self, actor: Actor) -> Option<Held>
+        requires actor { IsActor self.now.settings actor }
+        requires handles { Handles actor }
+        ensures { result ≡ hand_at self.now.flow.hands (places.hand_place self.now.settings actor) }
     {
-        self.hands.at(hand)
+        self.hands.at(hand_place(self.settings, actor))
+    }
+
+    /// The queue from which the actor takes next.
+    pub fn source(&self, actor: Actor) -> Queue
+        requires actor { IsActor self.now.settings actor }
+        requires handles { Handles actor }
+        ensures is { result ≡ source_in self.now.settings self.now.flow actor }
+        ensures there { HasQueue (places.node_of actor) result }
+    {
+        match actor {
+            Actor::Worker { host, .. } => {
+                if self.is_empty(Node::Host(host), Queue::Wire) {
+                    Queue::Out
+                } else {
+                    Queue::Wire
+                }
+            }
+            Actor::Coproc(_) => Queue::Seal,
+            _ => Queue::Wire,
+        }
+    }
+
+    /// The gateway of a flow.
+    pub fn gateway(&self, tuple: &Tuple) -> u32
+        ensures is { result ≡ gateway_of self.now.settings.gateways tuple.now }
+        ensures there { result < self.now.settings.gateways }
+    {
+        u32::from(flow_hash(tuple)) % self.settings.gateways
     }
 
     /// What is known of the packet.
     pub fn carried(&self, packet: u32) -> Carried
         requires { packet < length self.now.flow.carried }
-        ensures { result ≡ carried_in self.now.flow.carried packet }
+        ensures is { result ≡ carried_in self.now.flow.carried packet }
+        ensures fits { CarriedFits result }
     {
         self.carried[packet as usize]
     }
 
-    /// A parcel comes into the queue from outside, or is lost where the queue is full. Says whether it is lost.
-    pub fn enter(&mut self, queue: usize, parcel: Parcel) -> bool
-        requires { queue < length self.old.flow.queues }
-        ensures end { (if result then End.Full else End.Queued) ≡ end_at (slice_index self.old.capacities queue) self.old.flow.queues queue }
-        ensures flow { self.new.flow ≡ flow_after self.old.flow (enter_by queue parcel.packet result) }
-        ensures parcels { self.new.parcels ≡ (if result then self.old.parcels else with_parcel self.old.parcels queue parcel) }
-        ensures capacities { self.new.capacities ≡ self.old.capacities }
+    /// A parcel comes into the host's `out` queue, or is lost where that queue is full. Says whether it is lost.
+    pub fn enter(&mut self, host: u32, parcel: Parcel) -> bool
+        requires { host < self.old.settings.hosts }
+        ensures full { result ≡ finds_full_at self.old host }
+        ensures entered { self.new ≡ entered self.old host parcel result }
     {
+        let queue = queue_place(self.settings, Node::Host(host), Queue::Out);
         self.queues.push(queue, parcel)
     }
 
-    /// The actor takes the first parcel of the queue.
-    pub fn grab(&mut self, hand: usize, from: usize, need: u32, queue: Queue) -> (Held, Parcel)
-        requires hand { hand < length self.old.flow.hands }
-        requires from { from < length self.old.flow.queues }
-        requires some { 0 < length (queue_at self.old.flow.queues from) }
-        ensures held { result.0 ≡ record { packet = result.1.packet; need = need; queue = queue } }
-        ensures front { slice_get (queue_at self.old.flow.queues from) 0 ≡ Some result.1.packet }
-        ensures parcel { slice_get (parcels_at self.old.parcels from) 0 ≡ Some result.1 }
-        ensures flow { self.new.flow ≡ flow_after self.old.flow (Grab hand from result.0) }
-        ensures parcels { self.new.parcels ≡ without_first self.old.parcels from }
-        ensures capacities { self.new.capacities ≡ self.old.capacities }
+    /// The actor takes the first parcel of its queue.
+    pub fn take(&mut self, actor: Actor, need: u32) -> (Held, Parcel)
+        requires actor { IsActor self.old.settings actor }
+        requires handles { Handles actor }
+        requires some { 0 < length (queue_at self.old.flow.queues (source_place self.old actor)) }
+        ensures held { result.0 ≡ record { packet = result.1.packet; need = need; queue = source_in self.old.settings self.old.flow actor } }
+        ensures front { slice_get (queue_at self.old.flow.queues (source_place self.old actor)) 0 ≡ Some result.1.packet }
+        ensures parcel { slice_get (parcels_at self.old.parcels (source_place self.old actor)) 0 ≡ Some result.1 }
+        ensures taken { self.new ≡ taken self.old actor result.0 }
     {
+        let queue = self.source(actor);
+        let from = queue_place(self.settings, node_of(actor), queue);
         let parcel = self.queues.pop(from);
-        let packet = parcel.packet();
         let held = Held {
-            packet,
+            packet: parcel.packet(),
             need,
             queue,
         };
-        self.hands.fill(hand, held);
+        self.hands.fill(hand_place(self.settings, actor), held);
         (held, parcel)
     }
 
-    /// The actor sends its parcel to a node's queue, or it is lost: where no hop is left, or else where that queue is full.
-    pub fn send(
-        &mut self,
-        hand: usize,
-        queue: usize,
-        parcel: Parcel,
-        net: u32,
-        target: Endpoint,
-    ) -> End
-        requires hand { hand < length self.old.flow.hands }
-        requires packet { parcel.packet < length self.old.flow.carried }
-        requires queue { queue < length self.old.flow.queues }
-        ensures end { result ≡ end_of_send (slice_index self.old.capacities queue) self.old.flow queue parcel.packet }
-        ensures flow { self.new.flow ≡ flow_after self.old.flow (send_by hand queue parcel.packet result net target) }
-        ensures parcels { self.new.parcels ≡ parcels_after self.old.parcels queue parcel result }
-        ensures capacities { self.new.capacities ≡ self.old.capacities }
+    /// The holder lets its packet go.
+    pub fn stop(&mut self, from: Holder, parcel: Parcel)
+        requires may { MayMove self.old from parcel }
+        ensures { self.new ≡ moved self.old from parcel (Stop (hand_of self.old from) parcel.packet) }
     {
-        let packet = parcel.packet();
-        self.hands.clear(hand);
-        if self.carried[packet as usize].hops == 0 {
-            return End::Hops;
-        }
-        if self.queues.push(queue, parcel) {
-            return End::Full;
-        }
-        note_send(&mut self.carried, packet as usize, net, target);
-        End::Queued
+        self.hands.clear(hand_place(self.settings, from.actor));
     }
 
-    /// The actor gives its parcel to be sealed and sent then, or it is lost where that queue is full.
-    pub fn seal(
-        &mut self,
-        hand: usize,
-        queue: usize,
-        parcel: Parcel,
-        net: u32,
-        target: Endpoint,
-    ) -> End
-        requires hand { hand < length self.old.flow.hands }
-        requires packet { parcel.packet < length self.old.flow.carried }
-        requires queue { queue < length self.old.flow.queues }
-        ensures end { result ≡ end_at (slice_index self.old.capacities queue) self.old.flow.queues queue }
-        ensures flow { self.new.flow ≡ flow_after self.old.flow (seal_by hand queue parcel.packet result net target) }
-        ensures parcels { self.new.parcels ≡ parcels_after self.old.parcels queue parcel result }
-        ensures capacities { self.new.capacities ≡ self.old.capacities }
+    /// The host's holder gives its parcel to be sealed there and sent then, or it is lost where that queue is full.
+    pub fn seal(&mut self, from: Holder, parcel: Parcel, net: u32, target: Endpoint) -> End
+        requires may { MayMove self.old from parcel }
+        requires host { HasQueue (places.node_of from.actor) Seal }
+        requires net { net < 2 ^ 24 }
+        ensures end { result ≡ end_here self.old from }
+        ensures moved { self.new ≡ moved self.old from parcel (seal_by (hand_of self.old from) (seal_of self.old from) parcel.packet result net target) }
     {
         let packet = parcel.packet();
-        self.hands.clear(hand);
+        self.hands.clear(hand_place(self.settings, from.actor));
+        let queue = queue_place(self.settings, node_of(from.actor), Queue::Seal);
         if self.queues.push(queue, parcel) {
             return End::Full;
         }
@@ -197,14 +231,38 @@ impl Traffic {
         End::Queued
     }
 
-    /// The actor lets its packet go.
-    pub fn stop(&mut self, hand: usize, parcel: Parcel)
-        requires { hand < length self.old.flow.hands }
-        ensures flow { self.new.flow ≡ flow_after self.old.flow (Stop hand parcel.packet) }
-        ensures parcels { self.new.parcels ≡ self.old.parcels }
-        ensures capacities { self.new.capacities ≡ self.old.capacities }
+    /// The holder sends its parcel to an endpoint, with the outer headers of this send, or it is lost: where no hop is
+    /// left, or else where the queue there is full.
+    pub fn send(&mut self, from: Holder, parcel: Parcel, net: u32, target: Endpoint) -> End
+        requires may { MayMove self.old from parcel }
+        requires net { net < 2 ^ 24 }
+        requires target { IsNode self.old.settings (states.node_at target) }
+        ensures end { result ≡ end_to self.old.settings self.old.flow parcel.packet target }
+        ensures moved { self.new ≡ moved self.old from parcel (states.send self.old.settings (hand_of self.old from) parcel.packet result target net) }
     {
-        self.hands.clear(hand);
+        let mut parcel = parcel;
+        let settings = self.settings;
+        let packet = parcel.packet();
+        let hops = self.carried(packet).hops;
+        wrap_to(
+            settings,
+            node_of(from.actor),
+            &from.tuple,
+            hops,
+            &mut parcel,
+            net,
+            target,
+        );
+        self.hands.clear(hand_place(settings, from.actor));
+        if hops == 0 {
+            return End::Hops;
+        }
+        let queue = queue_place(settings, node_at(target), Queue::Wire);
+        if self.queues.push(queue, parcel) {
+            return End::Full;
+        }
+        note_send(&mut self.carried, packet as usize, net, target);
+        End::Queued
     }
 }
 

@@ -33,7 +33,8 @@ use Rattle.and_laws.proofs.Hands.{right_hands}
 use Rattle.and_laws.proofs.Losses.{held_is_known}
 use Rattle.and_laws.proofs.Programmed.{programmed}
 use Rattle.and_laws.proofs.Staged.{stages}
-use Rattle.and_book.specs.Settling.{MaySettleEgress, MaySettleIngress, MaySettleGateway, IsGateDecision, gate_number, gate_event}
+use Rattle.and_book.specs.Settling.{MaySettleEgress, MaySettleIngress, MaySettleGateway, IsGateDecision, gate_number}
+use Rattle.and_kept.specs.Settling.{gate_event}
 use Rattle.and_book.specs.Views.{BookView, now, with_line}
 use Rattle.and_book.proofs.Settled.{worker_node, gateway_node, gate_actor}
 use Rattle.and_replay.specs.declared.hands.InHand.{InHand}

@@ -1,10 +1,9 @@
 -- Who is enabled after an event was so before, or is its actor, the driver, or one of those that it may wake.
-use Rattle.std.proofs.Common.{◌≡◌, ℕ, ◌+◌, ◌*◌, ◌<◌, ◌≤◌, ◌⊎◌, Bool, true, false, List, [], ◌∷◌, ◌++◌, length, set, drop, refl, sym, ap, ◌∙◌, subst, arith, Option, Some, None, ⊎_elim, inl, inr}
+use Rattle.std.proofs.Common.{◌≡◌, ℕ, ◌<◌, ◌⊎◌, Bool, true, false, List, [], ◌∷◌, ◌++◌, length, set, drop, refl, sym, ap, ◌∙◌, subst, arith, Option, Some, None, ⊎_elim, inl, inr}
 use Rattle.std.specs.Prelude.{nat_lt, if◌then◌else◌}
 use Rattle.std.proofs.lemmas.Grind.{common_steps}
 use Rattle.and_events.specs.declared.event.Actor.{Actor}
 use Rattle.and_events.specs.declared.event.Actor.TheVariants.{HostInstall, GateInstall, Worker, Coproc, Gateway, Controller, Driver}
-use Rattle.and_events.specs.declared.event.Arrival.{Arrival}
 use Rattle.and_events.specs.declared.event.Arrival.TheVariants as arrivals
 use Rattle.and_events.specs.declared.event.Departure.TheVariants.{NoVm, Spoofed, Denied, Allowed}
 use Rattle.and_events.specs.declared.event.End.{End}
@@ -24,19 +23,19 @@ use Rattle.and_events.specs.declared.plan.Plan.{Plan}
 use Rattle.and_events.specs.declared.plan.Settings.{Settings}
 use Rattle.and_events.specs.Flow.{Flow, Move, Stay, Enter, Lose, Grab, Send, SealLater, Stop, flow_after, queue_at, hand_at}
 use Rattle.and_events.specs.Legal.{Legal, Enabled, Sends}
-use Rattle.and_events.specs.Places.{node_count, node_place, queue_place, hand_place, actor_count, actor_number, actor_of, node_of, installer_of, IsNode, IsActor, HasQueue}
+use Rattle.and_events.specs.Places.{node_place, queue_place, hand_place, actor_count, actor_number, actor_of, node_of, installer_of, IsNode, IsActor, HasQueue}
 use Rattle.and_events.specs.Programming.{Programmes, programmes_after, programme_at, announced_at, installed_at}
 use Rattle.and_events.specs.Run.{Run}
 use Rattle.and_events.specs.Sound.{IsSound, IsBuilt}
 use Rattle.and_events.specs.State.{State, state, after, move_of, word_of, send, node_at, dest_endpoint, home}
 use Rattle.and_laws.specs.Stages.{Takes}
-use Rattle.and_laws.proofs.Actors.{TakesAt, takes_at, hand_number}
+use Rattle.and_laws.proofs.Actors.{takes_at, hand_number}
 use Rattle.and_laws.proofs.Rows.{set_at}
-use Rattle.and_book.specs.Views.{Handles, source_in}
+use Rattle.and_kept.specs.Moves.{source_in}
 use Rattle.and_book.specs.Enabling.{CanProgramme, IsBusy}
 use Rattle.and_book.proofs.Due.{may_act, may_act_of}
 use Rattle.and_replay.specs.declared.waking.Woken.{Woken}
-use Rattle.and_replay.specs.declared.waking.Woken.TheVariants.{Nobody, At, Everyone}
+use Rattle.and_replay.specs.declared.waking.Woken.TheVariants.{At, Everyone}
 use Rattle.and_replay.specs.declared.first.Ready.{Ready}
 use Rattle.and_replay.specs.Wakings.{IsAmong, AreAmong, StayAmong, Wakes, woken_by}
 use Rattle.and_replay.proofs.ActorNumbers.{same_actor}

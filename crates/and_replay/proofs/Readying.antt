@@ -1,17 +1,15 @@
 -- Who may be enabled, from one event to the next.
-use Rattle.std.proofs.Common.{◌≡◌, ℕ, ◌<◌, List, ◌∷◌, sym, ap, ◌∙◌, subst, arith, inr}
+use Rattle.std.proofs.Common.{◌≡◌, ◌<◌, List, ◌∷◌, sym, ap, subst, arith, inr}
 use Rattle.and_events.specs.declared.event.Actor.{Actor}
 use Rattle.and_events.specs.declared.event.Event.{Event}
-use Rattle.and_events.specs.declared.event.Line.{Line}
 use Rattle.and_events.specs.declared.plan.Plan.{Plan}
 use Rattle.and_events.specs.Places.{actor_count, actor_number, actor_of}
 use Rattle.and_events.specs.Run.{Run, past}
 use Rattle.and_events.specs.Sound.{IsSound, IsBuilt}
-use Rattle.and_events.specs.State.{State, state}
+use Rattle.and_events.specs.State.{state}
 use Rattle.and_book.specs.Views.{BookView, now, with_line}
 use Rattle.and_replay.specs.declared.first.Ready.{Ready}
 use Rattle.and_replay.specs.declared.waking.Woken.{Woken}
-use Rattle.and_replay.specs.Turns.{Adds}
 use Rattle.and_replay.specs.Wakings.{IsReady, IsAmong, AreAmong, StayAmong, woken_by}
 use Rattle.and_replay.proofs.Adding.{past_after, plan_after}
 use Rattle.and_replay.proofs.EnabledBefore.{still_among}

@@ -10,7 +10,6 @@ use Rattle.and_events.specs.declared.event.Departure.{Departure}
 use Rattle.and_events.specs.declared.event.Departure.TheVariants.{Allowed}
 use Rattle.and_events.specs.declared.event.Event.{Event}
 use Rattle.and_events.specs.declared.event.Event.TheVariants.{Wait, Inject, Finish, Announce, Installed, Take, Egress, Route, Redirect, Ingress}
-use Rattle.and_events.specs.declared.event.Node.{Node}
 use Rattle.and_events.specs.declared.event.Node.TheVariants.{Host, Gate}
 use Rattle.and_events.specs.declared.event.Passage.{Passage}
 use Rattle.and_events.specs.declared.event.Passage.TheVariants as passages

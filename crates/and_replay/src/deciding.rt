@@ -5,7 +5,8 @@ ghost use Rattle.and_events.specs.Places as places;
 ghost use Rattle.and_events.specs.Places.{IsWorker, IsGatewayWorker};
 ghost use Rattle.and_events.specs.Flow.{hand_at};
 ghost use Rattle.and_events.specs.State.{no_packet};
-ghost use Rattle.and_book.specs.Views.{now, held, Handles};
+ghost use Rattle.and_book.specs.Views.{now, held};
+ghost use Rattle.and_events.specs.Places.{Handles};
 ghost use Rattle.and_policy.specs.declared.entry.Entry.{Entry};
 ghost use Rattle.and_replay.specs.Deciding.{IsGateTarget, gate_word};
 ghost use Rattle.and_replay.specs.Indexes.{IsIndex};
@@ -13,8 +14,8 @@ ghost use Rattle.and_replay.specs.Turns.{IsNext, Has, Adds, IsRight};
 
 use crate::hands::InHand;
 use crate::index::Index;
-use and_book::{Book, node_of};
-use and_events::{Actor, Carried, Endpoint, Items, Packet};
+use and_book::Book;
+use and_events::{Actor, Carried, Endpoint, Items, Packet, node_of};
 use and_policy::{Decision, GateDecision, Outcome, Tuple, Way};
 
 // The tuple of a packet of the plan.

@@ -23,6 +23,3 @@ mod run;
 mod waking;
 
 pub use run::{Turns, replay_run};
-
-#[cfg(test)]
-mod tests;

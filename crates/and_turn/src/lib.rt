@@ -17,8 +17,6 @@ mod plays;
 mod seat;
 mod steps;
 mod tale;
-#[cfg(test)]
-mod tests;
 mod view;
 
 pub use seat::{Seat, TurnLock};

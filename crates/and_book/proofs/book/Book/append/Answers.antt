@@ -15,7 +15,7 @@ use Rattle.and_events.specs.declared.event.Event.TheVariants.{Append}
 use Rattle.and_book.proofs.Known.{built_entry}
 use Rattle.and_book.proofs.Plans.{log_room}
 use Rattle.and_book.proofs.Outgoing.{still}
-use Rattle.and_book.proofs.Steps.{legal_append, after_append}
+use Rattle.and_book.proofs.Stepping.{legal_append, after_append}
 use Rattle.and_book.proofs.book.Book.append.Goals as goal
 
 pub append-requires : goal.append-requires

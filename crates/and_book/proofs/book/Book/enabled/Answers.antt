@@ -27,4 +27,4 @@ returns c =
     let inv = c.self.invariant in
     let due = seen x c.args.self.now c.self.view_is (λ (b : BookView). c.next_step.result ≡ slice_get b.plan.steps (now b).next) c.next_step.ensures in
     subst (λ (b : BookView). IsTrue c.can_act.result ↔ Enabled b.plan (now b) c.args.actor) c.self.view_is
-    (enabled_by plan (past x.lines.items) inv.sound inv.built inv.run k c.next_step.result c.args.actor c.can_act.result inv.stands due c.can_act.ensures)
+    (enabled_by plan (past x.lines.items) inv.sound inv.built inv.run k inv.sized.settings c.next_step.result c.args.actor c.can_act.result inv.stands due c.can_act.ensures)

@@ -12,7 +12,7 @@ use Rattle.and_book.specs.Views.{BookView, now, IsSeat}
 use Rattle.and_book.specs.Inside.{Kept, kept_of}
 use Rattle.and_book.proofs.More.{keeps_more, seen, room_kept}
 use Rattle.and_book.proofs.Outgoing.{still}
-use Rattle.and_book.proofs.Steps.{legal_finish, after_finish}
+use Rattle.and_book.proofs.Stepping.{legal_finish, after_finish}
 use Rattle.and_book.proofs.book.Book.finish.Goals as goal
 
 pub invariant_of-self : goal.invariant_of-self

@@ -1,7 +1,7 @@
 use Rattle.std.proofs.Common.{◌+◌, ◌∙◌, refl, ap, subst, arith}
 use Rattle.and_events.specs.declared.plan.Plan.{Plan}
 use Rattle.and_events.specs.Places.{queue_count}
-use Rattle.and_events.specs.Flow.{Flow}
+use Rattle.and_kept.specs.Lanes.{Roads}
 use Rattle.and_book.specs.Nets.{HasNets}
 use Rattle.and_book.specs.Inside.{Kept}
 use Rattle.and_book.proofs.NetTable.{adds_below}
@@ -21,11 +21,11 @@ invariant_of-result c =
     let plan : Plan = c.args.plan in
     let k : Kept = record { next = 0; progress = c.in_ok-progress.progress; ports = c.in_ok-ports.ports; roads = c.in_ok-traffic.traffic; nets = c.in_ok-nets.nets.items } in
     keeps_start plan c.args.threads c.new.result.items k _ c.len-4.result (plan.settings.hosts + plan.settings.gateways) c.len.result c.requires.sound c.requires.built c.new.ensures.items refl refl
-    c.len-4.ensures c.len.ensures c.in_ok-progress.ensures.programmes c.in_ok-ports.ensures c.in_ok-traffic.ensures.flow
+    c.len-4.ensures c.len.ensures c.in_ok-progress.ensures.programmes c.in_ok-ports.ensures (ap (λ (r : Roads). r.flow) c.in_ok-traffic.ensures)
     (record {
-      capacities = c.in_ok-traffic.ensures.capacities;
+      settings = ap (λ (r : Roads). r.settings) c.in_ok-traffic.ensures;
       limit = c.in_ok-progress.ensures.limit ∙ c.len-2.ensures;
       vms = c.in_ok-progress.ensures.vms ∙ c.len-3.ensures;
       nets = subst (HasNets c.in_ok-nets.nets.items) c.as_slice.ensures c.in_ok-nets.ensures;
     })
-    (none_yet plan k.roads (queue_count plan.settings) c.in_ok-traffic.ensures.parcels (ap (λ (f : Flow). f.queues) c.in_ok-traffic.ensures.flow))
+    (none_yet plan k.roads (queue_count plan.settings) (ap (λ (r : Roads). r.parcels) c.in_ok-traffic.ensures) (ap (λ (r : Roads). r.flow.queues) c.in_ok-traffic.ensures))

@@ -10,7 +10,7 @@ use Rattle.and_book.specs.Views.{BookView, now, IsSeat}
 use Rattle.and_book.specs.Inside.{Kept, kept_of}
 use Rattle.and_book.proofs.More.{keeps_more, seen, room_kept}
 use Rattle.and_book.proofs.Outgoing.{still}
-use Rattle.and_book.proofs.Steps.{legal_installed, after_installed, upto_announced}
+use Rattle.and_book.proofs.Stepping.{legal_installed, after_installed, upto_announced}
 use Rattle.and_book.proofs.book.Book.settle_install.Goals as goal
 
 pub invariant_of-self : goal.invariant_of-self

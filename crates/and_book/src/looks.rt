@@ -1,0 +1,69 @@
+//! What a book tells of the state after its lines.
+ghost use Rattle.std.specs.Prelude.{◌≡◌, ◌<◌, ◌↔◌, length, IsTrue, slice_get};
+ghost use Rattle.and_events.specs.Legal.{Enabled};
+ghost use Rattle.and_events.specs.Places.{IsNode};
+ghost use Rattle.and_events.specs.State.{programme_of, announced_of, installed_of, carried_at};
+ghost use Rattle.and_book.specs.Views.{now};
+
+use crate::book::Book;
+use crate::enabling::can_act;
+use and_events::{Actor, Carried, Node, Step, node_place};
+use and_policy::Op;
+
+impl Book {
+    /// The step that is due.
+    pub fn next_step(&self) -> Option<Step>
+        ensures { result ≡ slice_get self.now.plan.steps (now self.now).next }
+    {
+        self.plan.steps.get(self.next as usize).copied()
+    }
+
+    /// What is known of the packet on its way.
+    pub fn carried(&self, packet: u32) -> Carried
+        requires { packet < length self.now.plan.packets }
+        ensures { result ≡ carried_at (now self.now) packet }
+    {
+        self.traffic.carried(packet)
+    }
+
+    /// Whether the actor is enabled: a condition of its events holds, or it has a packet in hand. It takes the same few steps
+    /// however long the run is.
+    pub fn enabled(&self, actor: Actor) -> bool
+        ensures { IsTrue result ↔ Enabled self.now.plan (now self.now) actor }
+    {
+        can_act(
+            &self.plan.packets,
+            &self.progress,
+            &self.traffic,
+            self.next_step(),
+            actor,
+        )
+    }
+
+    /// The node's programme.
+    pub fn programme(&self, node: Node) -> &[Op]
+        requires { IsNode self.now.plan.settings node }
+        ensures { result.now ≡ programme_of self.now.plan (now self.now) node }
+    {
+        let place = node_place(self.plan.settings, node);
+        self.progress.programme(place)
+    }
+
+    /// How much of it was announced last.
+    pub fn announced(&self, node: Node) -> u32
+        requires { IsNode self.now.plan.settings node }
+        ensures { result ≡ announced_of self.now.plan (now self.now) node }
+    {
+        let place = node_place(self.plan.settings, node);
+        self.progress.announced(place)
+    }
+
+    /// How much of it is installed.
+    pub fn installed(&self, node: Node) -> u32
+        requires { IsNode self.now.plan.settings node }
+        ensures { result ≡ installed_of self.now.plan (now self.now) node }
+    {
+        let place = node_place(self.plan.settings, node);
+        self.progress.installed(place)
+    }
+}

@@ -1,0 +1,65 @@
+//! The outer headers of sends.
+ghost use Rattle.std.specs.Prelude.{◌≡◌, ◌<◌, ◌^◌};
+ghost use Rattle.and_events.specs.OuterPackets as packets;
+ghost use Rattle.and_events.specs.Places.{IsNode};
+ghost use Rattle.and_events.specs.State.{node_at};
+ghost use Rattle.and_kept.specs.Outers.{wrapped};
+ghost use Rattle.and_events.specs.Places.{IsSmall};
+
+use and_events::{Endpoint, Node, Settings};
+use and_parcel::{Outer, Parcel, entropy_port};
+use and_policy::{Tuple, flow_hash, host_address, redirect_address, route_address};
+
+// The underlay address from which a node sends.
+fn source_address(settings: Settings, node: Node) -> u32
+    requires small { IsSmall settings }
+    requires node { IsNode settings node }
+    ensures { result ≡ packets.source_address node }
+{
+    let _ = settings;
+    match node {
+        Node::Host(host) => host_address(host),
+        Node::Gate(gateway) => route_address(gateway),
+    }
+}
+
+// The underlay address of an endpoint.
+fn endpoint_address(settings: Settings, target: Endpoint) -> u32
+    requires small { IsSmall settings }
+    requires target { IsNode settings (node_at target) }
+    ensures { result ≡ packets.endpoint_address target }
+{
+    let _ = settings;
+    match target {
+        Endpoint::Host(host) => host_address(host),
+        Endpoint::Route(gateway) => route_address(gateway),
+        Endpoint::Redirect(gateway) => redirect_address(gateway),
+    }
+}
+
+/// Writes the outer headers of a send into the parcel; the TTL is the hops left before the send.
+pub(crate) fn wrap_to(
+    settings: Settings,
+    node: Node,
+    tuple: &Tuple,
+    hops: u32,
+    parcel: &mut Parcel,
+    net: u32,
+    target: Endpoint,
+)
+    requires small { IsSmall settings }
+    requires node { IsNode settings node }
+    requires target { IsNode settings (node_at target) }
+    requires hops { hops < 2 ^ 8 }
+    requires net { net < 2 ^ 24 }
+    ensures { parcel.new ≡ wrapped node tuple.now hops parcel.old net target }
+{
+    parcel.wrap(&Outer {
+        source: source_address(settings, node),
+        destination: endpoint_address(settings, target),
+        ttl: hops as u8,
+        vni: net,
+        source_port: entropy_port(flow_hash(tuple)),
+        sealed: false,
+    });
+}

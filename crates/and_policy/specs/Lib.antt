@@ -1,3 +1,4 @@
+pub mod Caches
 pub mod Checks
 pub mod Numbers
 pub mod Frames

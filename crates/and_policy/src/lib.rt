@@ -5,6 +5,7 @@
 //! log alone keeps indexes, so that the check of an entry never looks back.
 #![tactic(auto)]
 
+mod cached;
 mod decision;
 mod entry;
 mod index;
@@ -19,6 +20,7 @@ mod register;
 mod tables;
 mod underlay;
 
+pub use cached::Cached;
 pub use decision::{
     Decision, Dest, Exit, GateDecision, Landing, Leaving, Located, Name, Outcome, Routed, Routing,
     Verdict, Way,

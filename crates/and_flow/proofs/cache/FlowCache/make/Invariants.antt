@@ -1,0 +1,6 @@
+use Rattle.std.proofs.Common.{◌≡◌, [], length}
+use Rattle.std.specs.Prelude.{replicate}
+use Rattle.and_flow.proofs.cache.FlowCache.make.Given as goal
+
+abbrev pub invariant-loop-group : goal.invariant-loop-group
+invariant-loop-group l = l.groups.items ≡ replicate l._group []

@@ -1,6 +1,7 @@
 pub mod Appends
 pub mod Numbering
 pub mod Netting
+pub mod Sorted
 pub mod Logging
 pub mod LoggedLemmas
 pub mod Deciding

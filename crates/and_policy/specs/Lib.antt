@@ -21,3 +21,4 @@ pub mod Steps
 pub mod Once
 pub mod Registers
 pub mod Numbered
+pub mod Sorting

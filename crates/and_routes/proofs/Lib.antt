@@ -1,0 +1,4 @@
+pub mod Splitting
+pub mod Lengths
+pub mod Bucketing
+pub mod Cases

@@ -1,0 +1,3 @@
+pub mod Heads
+pub mod Buckets
+pub mod Gates

@@ -1,0 +1,1 @@
+-- none: the ports and their moves are defined with the states of a run

@@ -6,10 +6,10 @@ use Rattle.std.proofs.lemmas.Bool.{ltb-false, le-ltb, eqb-true}
 use Rattle.std.proofs.lemmas.List.{drop_at, take-append-drop, length-take, drop-drop, flat_map_more, take_more}
 use Rattle.byteorder.specs.Endian.{big_number, little_number, little_bytes}
 use Rattle.and_capture.specs.declared.fault.CaptureFault.{CaptureFault}
-use Rattle.and_capture.specs.declared.fault.CaptureFault.TheVariants.{CutHeader, Magic, Major, LinkType, CutRecord, LongRecord, TooMany, NotBuilt, NoMemory}
+use Rattle.and_capture.specs.declared.fault.CaptureFault.TheVariants.{CutHeader, Magic, Major, LinkType, CutRecord, LongRecord, TooMany, NoMemory}
 use Rattle.and_capture.specs.declared.capture.Taken.{Taken}
 use Rattle.and_capture.specs.declared.capture.Capture.{Capture}
-use Rattle.and_capture.specs.declared.TheConstants.{HEADER_LEN, RECORD_LEN, MAX_FRAMES, MAX_FRAME_LEN}
+use Rattle.and_capture.specs.Spelling.{header_len, record_len, max_frames, max_frame_len}
 use Rattle.and_capture.specs.Spelling.{Order, little, big, number_in, bytes_in, magic_of, header, record_of, Fits, IsWithinLimits, Spells, written}
 use Rattle.and_capture.specs.Reading.{◌>>=◌, Gives, record_at, frames_at, capture_in, style_at, capture_by, reading}
 use Rattle.and_capture.proofs.Numbers.{IsBytes, IsBytes-drop, length-bytes_in, number_again, bytes_2, bytes_4}
@@ -49,14 +49,14 @@ joined bytes =
     let e0 : take 4 bytes ++ drop 4 bytes ≡ bytes = take-append-drop 4 bytes in
     simp append_assoc (rw (e20, e6, e4, e0) refl)
 
-in_takes : (order : Order) (nanos : Bool) (bytes : List ℕ) (capture : Capture) → IsBytes bytes → HEADER_LEN ≤ length bytes → number_in order 4 bytes ≡ magic_of nanos
+in_takes : (order : Order) (nanos : Bool) (bytes : List ℕ) (capture : Capture) → IsBytes bytes → header_len ≤ length bytes → number_in order 4 bytes ≡ magic_of nanos
     → capture_in (number_in order) nanos bytes ≡ Ok capture → Spells bytes capture
 unfolding capture_in
 in_takes order nanos bytes capture fits long magic e =
     let a = held (eqb (number_in order 2 (drop 4 bytes)) 2) _ _ capture e in
     let b = held (eqb (number_in order 4 (drop 20 bytes)) 1) _ _ capture a.1 in
-    let q = bind_ok (frames_at (number_in order) MAX_FRAMES HEADER_LEN (drop HEADER_LEN bytes)) (λ frames. Ok (record { nanos = nanos; frames = frames })) capture b.1 in
-    let taken = frames_take order MAX_FRAMES HEADER_LEN (drop HEADER_LEN bytes) q.0 (IsBytes-drop HEADER_LEN bytes fits) q.1 in
+    let q = bind_ok (frames_at (number_in order) max_frames header_len (drop header_len bytes)) (λ frames. Ok (record { nanos = nanos; frames = frames })) capture b.1 in
+    let taken = frames_take order max_frames header_len (drop header_len bytes) q.0 (IsBytes-drop header_len bytes fits) q.1 in
     let m : bytes_in order 4 (magic_of nanos) ≡ take 4 bytes = rw (← magic) (bytes_4 order bytes fits (omega arith)) in
     let j : bytes_in order 2 2 ≡ take 2 (drop 4 bytes) =
     ap (λ (n : ℕ). bytes_in order 2 n) (sym (eqb-true _ _ a.0)) ∙ bytes_2 order (drop 4 bytes) (IsBytes-drop 4 bytes fits) (omega (arith, length-drop 4 bytes)) in
@@ -72,24 +72,24 @@ in_takes order nanos bytes capture fits long magic e =
     } in
     subst (λ (c : Capture). Spells bytes c) (ok_is made capture q.2) spelled
 
-by_takes : (style : Option (Order × Bool)) (bytes : List ℕ) (capture : Capture) → IsBytes bytes → HEADER_LEN ≤ length bytes → IsRight bytes style → capture_by style bytes ≡ Ok capture → Spells bytes capture
+by_takes : (style : Option (Order × Bool)) (bytes : List ℕ) (capture : Capture) → IsBytes bytes → header_len ≤ length bytes → IsRight bytes style → capture_by style bytes ≡ Ok capture → Spells bytes capture
 by_takes None bytes capture fits long right e = absurd cc
 by_takes (Some style) bytes capture fits long right e = in_takes style.0 style.1 bytes capture fits long right e
 
 file_takes : (bytes : List ℕ) (capture : Capture) → IsBytes bytes → reading bytes ≡ Ok capture → Spells bytes capture
 unfolding reading
 file_takes bytes capture fits e =
-    let a = passed (ltb (length bytes) HEADER_LEN) CutHeader (capture_by (style_at bytes) bytes) capture e in
+    let a = passed (ltb (length bytes) header_len) CutHeader (capture_by (style_at bytes) bytes) capture e in
     by_takes (style_at bytes) bytes capture fits (ltb-false _ _ a.0) (style_right bytes) a.1
 
 -- ---- what is spelled so is read
 
 in_again : (order : Order) (nanos : Bool) (bytes : List ℕ) (frames : List Taken) → number_in order 2 (drop 4 bytes) ≡ 2 → number_in order 4 (drop 20 bytes) ≡ 1
-    → frames_at (number_in order) MAX_FRAMES HEADER_LEN (drop HEADER_LEN bytes) ≡ Ok frames → capture_in (number_in order) nanos bytes ≡ Ok (record { nanos = nanos; frames = frames })
+    → frames_at (number_in order) max_frames header_len (drop header_len bytes) ≡ Ok frames → capture_in (number_in order) nanos bytes ≡ Ok (record { nanos = nanos; frames = frames })
 unfolding capture_in
 in_again order nanos bytes frames major link read = rw (major, link, read) refl
 
-text_again : (order : Order) (nanos : Bool) (unread : List ℕ) (frames : List Taken) → length unread ≡ 14 → length frames ≤ MAX_FRAMES → AllByRecursion Fits frames
+text_again : (order : Order) (nanos : Bool) (unread : List ℕ) (frames : List Taken) → length unread ≡ 14 → length frames ≤ max_frames → AllByRecursion Fits frames
     → reading (bytes_in order 4 (magic_of nanos) ++ (bytes_in order 2 2 ++ (unread ++ (bytes_in order 4 1 ++ flat_map (record_of order) frames)))) ≡ Ok (record { nanos = nanos; frames = frames })
 unfolding reading
 text_again order nanos unread frames unread_len count each =
@@ -104,10 +104,10 @@ text_again order nanos unread frames unread_len count each =
     let d24 : drop 24 text ≡ body = sym (drop-drop 4 20 text) ∙ ap (λ (x : List ℕ). drop 4 x) d20 ∙ drop_at l _ 4 (length-bytes_in order 4 1) in
     let major : number_in order 2 (drop 4 text) ≡ 2 = ap (λ (x : List ℕ). number_in order 2 x) d4 ∙ number_again order 2 2 _ (omega arith) in
     let link : number_in order 4 (drop 20 text) ≡ 1 = ap (λ (x : List ℕ). number_in order 4 x) d20 ∙ number_again order 4 1 _ (omega arith) in
-    let read : frames_at (number_in order) MAX_FRAMES HEADER_LEN (drop HEADER_LEN text) ≡ Ok frames = rw d24 (frames_again order MAX_FRAMES HEADER_LEN frames count each) in
-    let long : HEADER_LEN ≤ length text =
+    let read : frames_at (number_in order) max_frames header_len (drop header_len text) ≡ Ok frames = rw d24 (frames_again order max_frames header_len frames count each) in
+    let long : header_len ≤ length text =
     omega (arith, length-append m (j ++ (unread ++ (l ++ body))), length-append j (unread ++ (l ++ body)), length-append unread (l ++ body), length-append l body, length-bytes_in order 4 (magic_of nanos), length-bytes_in order 2 2, length-bytes_in order 4 1) in
-    let whole : ltb (length text) HEADER_LEN ≡ false = le-ltb _ _ long in
+    let whole : ltb (length text) header_len ≡ false = le-ltb _ _ long in
     rw (whole, style_again order nanos (j ++ (unread ++ (l ++ body)))) (in_again order nanos text frames major link read)
 
 file_again : (order : Order) (unread : List ℕ) (capture : Capture) → length unread ≡ 14 → IsWithinLimits capture → reading (header order capture.nanos unread 1 ++ flat_map (record_of order) capture.frames) ≡ Ok capture
@@ -119,7 +119,7 @@ file_again order unread capture unread_len limits =
 pub written_again : (link : ℕ) (capture : Capture) (bytes : List ℕ) → bytes ≡ written link capture → link ≡ 1 → IsWithinLimits capture → reading bytes ≡ Ok capture
 written_again link capture bytes w one limits =
     ap reading (w ∙ ap (λ (n : ℕ). written n capture) one)
-    ∙ file_again little (little_bytes 2 4 ++ (little_bytes 4 0 ++ (little_bytes 4 0 ++ little_bytes 4 MAX_FRAME_LEN))) capture refl limits
+    ∙ file_again little (little_bytes 2 4 ++ (little_bytes 4 0 ++ (little_bytes 4 0 ++ little_bytes 4 max_frame_len))) capture refl limits
 
 -- ---- the clauses of `read_capture`
 
@@ -136,7 +136,6 @@ only_no_memory LinkType read capture h e = absurd cc
 only_no_memory (CutRecord at) read capture h e = absurd cc
 only_no_memory (LongRecord at) read capture h e = absurd cc
 only_no_memory TooMany read capture h e = absurd cc
-only_no_memory NotBuilt read capture h e = absurd cc
 
 pub is_only : (bytes : List ℕ) (r : Result Capture CaptureFault) → Gives (λ c. c) r (reading bytes) → (capture : Capture) → Spells bytes capture → MatchResult r (λ read. read ≡ capture) (λ fault. fault ≡ NoMemory)
 is_only bytes (Ok read) h capture s =
@@ -144,60 +143,6 @@ is_only bytes (Ok read) h capture s =
     ok_is read capture (sym h ∙ e)
 is_only bytes (Err fault) h capture s =
     only_no_memory fault (reading bytes) capture h (ap reading s.parts ∙ file_again s.order s.unread capture s.unread_len s.limits)
-
--- ---- no reading ends in `NotBuilt`
-
-abbrev IsTold : CaptureFault → Type 0
-IsTold NotBuilt = ⊥
-IsTold fault = Unit {0}
-
-abbrev Told : {A : Type 0} → Result A CaptureFault → Type 0
-Told (Ok x) = Unit {0}
-Told (Err fault) = IsTold fault
-
-told_either : {A : Type 0} (b : Bool) (x y : Result A CaptureFault) → Told x → Told y → Told (cond b x y)
-told_either true x y first second = first
-told_either false x y first second = second
-
-told_bind : {A B : Type 0} (r : Result A CaptureFault) (f : A → Result B CaptureFault) → Told r → ((x : A) → Told (f x)) → Told (r >>= f)
-told_bind (Ok x) f told then = then x
-told_bind (Err fault) f told then = told
-
-told_record : (number : ℕ → List ℕ → ℕ) (at : ℕ) (bytes : List ℕ) → Told (record_at number at bytes)
-unfolding record_at
-told_record number at bytes =
-    told_either (ltb (length bytes) RECORD_LEN) (Err (CutRecord at)) _ tt
-    (told_either (ltb MAX_FRAME_LEN (number 4 (drop 8 bytes))) (Err (LongRecord at)) _ tt
-    (told_either (ltb (length (drop RECORD_LEN bytes)) (number 4 (drop 8 bytes))) (Err (CutRecord at)) _ tt tt))
-
-told_frames : (number : ℕ → List ℕ → ℕ) (room at : ℕ) (bytes : List ℕ) → Told (frames_at number room at bytes)
-unfolding frames_at
-told_frames number room at [] = tt
-told_frames number zero at (b ∷ bytes) = tt
-told_frames number (suc room) at (b ∷ bytes) =
-    told_bind (record_at number at (b ∷ bytes)) _ (told_record number at (b ∷ bytes))
-    (λ first. told_bind (frames_at number room (at + (RECORD_LEN + length first.frame)) (drop (RECORD_LEN + length first.frame) (b ∷ bytes))) _
-    (told_frames number room (at + (RECORD_LEN + length first.frame)) (drop (RECORD_LEN + length first.frame) (b ∷ bytes))) (λ others. tt))
-
-told_in : (number : ℕ → List ℕ → ℕ) (nanos : Bool) (bytes : List ℕ) → Told (capture_in number nanos bytes)
-unfolding capture_in
-told_in number nanos bytes =
-    told_either (eqb (number 2 (drop 4 bytes)) 2) _ (Err Major)
-    (told_either (eqb (number 4 (drop 20 bytes)) 1) _ (Err LinkType)
-    (told_bind (frames_at number MAX_FRAMES HEADER_LEN (drop HEADER_LEN bytes)) _ (told_frames number MAX_FRAMES HEADER_LEN (drop HEADER_LEN bytes)) (λ frames. tt)) tt) tt
-
-told_by : (style : Option (Order × Bool)) (bytes : List ℕ) → Told (capture_by style bytes)
-told_by None bytes = tt
-told_by (Some style) bytes = told_in (number_in style.0) style.1 bytes
-
-told_reading : (bytes : List ℕ) → Told (reading bytes)
-unfolding reading
-told_reading bytes = told_either (ltb (length bytes) HEADER_LEN) (Err CutHeader) (capture_by (style_at bytes) bytes) tt (told_by (style_at bytes) bytes)
-
-pub is_not_built : (bytes : List ℕ) (r : Result Capture CaptureFault) → Gives (λ c. c) r (reading bytes) → r ≡ Err NotBuilt → ⊥
-is_not_built bytes r h e =
-    let gives : Gives (λ c. c) (Err NotBuilt) (reading bytes) = subst (λ (x : Result Capture CaptureFault). Gives (λ c. c) x (reading bytes)) e h in
-    subst (λ (x : Result Capture CaptureFault). Told x) gives (told_reading bytes)
 
 -- ---- the loop of `write_capture`
 

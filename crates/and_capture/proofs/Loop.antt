@@ -2,9 +2,9 @@
 use Rattle.std.proofs.Common.{◌≡◌, ℕ, zero, suc, ◌-◌, ◌+◌, ◌≤◌, ◌<◌, List, [], ◌∷◌, ◌++◌, length, drop, Result, Ok, Err, refl, sym, ap, ◌∙◌, append_assoc, arith, length-append, length-drop}
 use Rattle.std.proofs.lemmas.List.{append-nil}
 use Rattle.and_capture.specs.declared.fault.CaptureFault.{CaptureFault}
-use Rattle.and_capture.specs.declared.fault.CaptureFault.TheVariants.{CutHeader, Magic, Major, LinkType, CutRecord, LongRecord, TooMany, NoMemory, NotBuilt}
+use Rattle.and_capture.specs.declared.fault.CaptureFault.TheVariants.{CutHeader, Magic, Major, LinkType, CutRecord, LongRecord, TooMany, NoMemory}
 use Rattle.and_capture.specs.declared.capture.Taken.{Taken}
-use Rattle.and_capture.specs.declared.TheConstants.{HEADER_LEN, RECORD_LEN, MAX_FRAMES}
+use Rattle.and_capture.specs.Spelling.{header_len, record_len, max_frames}
 use Rattle.and_capture.specs.Reading.{◌>>=◌, Fails, record_at, frames_at}
 
 -- what was read before, and what is still read
@@ -17,14 +17,14 @@ regroup front t (Err e) = refl
 
 -- one record further
 step : (number : ℕ → List ℕ → ℕ) (front : List Taken) (room at : ℕ) (bytes : List ℕ) (t : Taken) → 0 < length bytes → record_at number at bytes ≡ Ok t
-    → with_front front (frames_at number (suc room) at bytes) ≡ with_front (front ++ t ∷ []) (frames_at number room (at + (RECORD_LEN + length t.frame)) (drop (RECORD_LEN + length t.frame) bytes))
+    → with_front front (frames_at number (suc room) at bytes) ≡ with_front (front ++ t ∷ []) (frames_at number room (at + (record_len + length t.frame)) (drop (record_len + length t.frame) bytes))
 unfolding frames_at
 step number front room at [] t some h = absurd (omega arith)
 step number front room at (b ∷ bytes) t some h =
-    rw h (regroup front t (frames_at number room (at + (RECORD_LEN + length t.frame)) (drop (RECORD_LEN + length t.frame) (b ∷ bytes))))
+    rw h (regroup front t (frames_at number room (at + (record_len + length t.frame)) (drop (record_len + length t.frame) (b ∷ bytes))))
 
 pub goes_on : (number : ℕ → List ℕ → ℕ) (front : List Taken) (room next at then : ℕ) (bytes rest : List ℕ) (t : Taken) (total : Result (List Taken) CaptureFault)
-    → room ≡ suc next → 0 < length bytes → record_at number at bytes ≡ Ok t → then ≡ at + (RECORD_LEN + length t.frame) → rest ≡ drop (RECORD_LEN + length t.frame) bytes
+    → room ≡ suc next → 0 < length bytes → record_at number at bytes ≡ Ok t → then ≡ at + (record_len + length t.frame) → rest ≡ drop (record_len + length t.frame) bytes
     → with_front front (frames_at number room at bytes) ≡ total → with_front (front ++ t ∷ []) (frames_at number next then rest) ≡ total
 goes_on number front room next at then bytes rest t total r some h place left so_far =
     rw (place, left) (sym (step number front next at bytes t some h) ∙ rw (← r) so_far)
@@ -44,7 +44,6 @@ ends number LinkType front (suc room) at (b ∷ bytes) total lt some h so_far = 
 ends number (CutRecord p) front (suc room) at (b ∷ bytes) total lt some h so_far = sym so_far ∙ rw h refl
 ends number (LongRecord p) front (suc room) at (b ∷ bytes) total lt some h so_far = sym so_far ∙ rw h refl
 ends number TooMany front (suc room) at (b ∷ bytes) total lt some h so_far = sym so_far ∙ rw h refl
-ends number NotBuilt front (suc room) at (b ∷ bytes) total lt some h so_far = sym so_far ∙ rw h refl
 
 -- no room, and bytes left
 pub is_full : (number : ℕ → List ℕ → ℕ) (front : List Taken) (room at : ℕ) (bytes : List ℕ) (total : Result (List Taken) CaptureFault)
@@ -71,25 +70,25 @@ is_start number room at place bytes e = rw e (nothing_before (frames_at number r
 
 -- what the loop keeps: what was read, and what the rest still gives, are what all of the records give
 pub record Keeps (number : ℕ → List ℕ → ℕ) (all rest : List ℕ) (frames : List Taken) : Type 0 where
-  pub room : length frames ≤ MAX_FRAMES
+  pub room : length frames ≤ max_frames
   pub inside : length rest ≤ length all
-  pub so_far : with_front frames (frames_at number (MAX_FRAMES - length frames) (length all - length rest) rest) ≡ frames_at number MAX_FRAMES HEADER_LEN (drop HEADER_LEN all)
+  pub so_far : with_front frames (frames_at number (max_frames - length frames) (length all - length rest) rest) ≡ frames_at number max_frames header_len (drop header_len all)
 
-pub Keeps_none : (number : ℕ → List ℕ → ℕ) (all rest : List ℕ) (frames : List Taken) → HEADER_LEN ≤ length all → rest ≡ drop HEADER_LEN all → frames ≡ [] → Keeps number all rest frames
+pub Keeps_none : (number : ℕ → List ℕ → ℕ) (all rest : List ℕ) (frames : List Taken) → header_len ≤ length all → rest ≡ drop header_len all → frames ≡ [] → Keeps number all rest frames
 Keeps_none number all rest frames long r f =
     rw (r, f) (record {
       room = omega arith;
-      inside = omega (arith, length-drop HEADER_LEN all);
-      so_far = is_start number MAX_FRAMES HEADER_LEN (length all - length (drop HEADER_LEN all)) (drop HEADER_LEN all) (omega (arith, length-drop HEADER_LEN all));
+      inside = omega (arith, length-drop header_len all);
+      so_far = is_start number max_frames header_len (length all - length (drop header_len all)) (drop header_len all) (omega (arith, length-drop header_len all));
     })
 
-pub Keeps_more : (number : ℕ → List ℕ → ℕ) (all bytes rest : List ℕ) (frames more : List Taken) (t : Taken) → Keeps number all bytes frames → 0 < length bytes → length frames < MAX_FRAMES
-    → RECORD_LEN + length t.frame ≤ length bytes → record_at number (length all - length bytes) bytes ≡ Ok t → rest ≡ drop (RECORD_LEN + length t.frame) bytes → more ≡ frames ++ t ∷ [] → Keeps number all rest more
+pub Keeps_more : (number : ℕ → List ℕ → ℕ) (all bytes rest : List ℕ) (frames more : List Taken) (t : Taken) → Keeps number all bytes frames → 0 < length bytes → length frames < max_frames
+    → record_len + length t.frame ≤ length bytes → record_at number (length all - length bytes) bytes ≡ Ok t → rest ≡ drop (record_len + length t.frame) bytes → more ≡ frames ++ t ∷ [] → Keeps number all rest more
 Keeps_more number all bytes rest frames more t kept some room inside h r m =
     let len : length (frames ++ t ∷ []) ≡ length frames + 1 = omega (arith, length-append frames (t ∷ [])) in
-    let left : length rest + (RECORD_LEN + length t.frame) ≡ length bytes = rw r (omega (arith, length-drop (RECORD_LEN + length t.frame) bytes)) in
+    let left : length rest + (record_len + length t.frame) ≡ length bytes = rw r (omega (arith, length-drop (record_len + length t.frame) bytes)) in
     rw m (record {
       room = omega arith;
       inside = omega (arith, kept.inside);
-      so_far = goes_on number frames (MAX_FRAMES - length frames) (MAX_FRAMES - length (frames ++ t ∷ [])) (length all - length bytes) (length all - length rest) bytes rest t _ (omega arith) some h (omega (arith, kept.inside)) r kept.so_far;
+      so_far = goes_on number frames (max_frames - length frames) (max_frames - length (frames ++ t ∷ [])) (length all - length bytes) (length all - length rest) bytes rest t _ (omega arith) some h (omega (arith, kept.inside)) r kept.so_far;
     })

@@ -5,7 +5,7 @@ use Rattle.std.proofs.lemmas.Bool.{ltb-false, le-ltb}
 use Rattle.std.proofs.lemmas.List.{take_at, drop_at, take-append-drop, length-take, drop-drop}
 use Rattle.and_capture.specs.declared.fault.CaptureFault.{CaptureFault}
 use Rattle.and_capture.specs.declared.capture.Taken.{Taken}
-use Rattle.and_capture.specs.declared.TheConstants.{RECORD_LEN, MAX_FRAME_LEN}
+use Rattle.and_capture.specs.Spelling.{record_len, max_frame_len}
 use Rattle.and_capture.specs.Spelling.{Order, number_in, bytes_in, record_of, Fits}
 use Rattle.and_capture.specs.Reading.{◌>>=◌, record_at, frames_at}
 use Rattle.and_capture.proofs.Numbers.{IsBytes, IsBytes-drop, length-bytes_in, number_again, number_fits, bytes_4}
@@ -35,20 +35,20 @@ bind_ok (Err d) f y e = absurd cc
 
 -- what the fields of a record at the front are
 abbrev front_of : (ℕ → List ℕ → ℕ) → List ℕ → Taken
-front_of number bytes = record { seconds = number 4 bytes; fraction = number 4 (drop 4 bytes); original = number 4 (drop 12 bytes); frame = take (number 4 (drop 8 bytes)) (drop RECORD_LEN bytes) }
+front_of number bytes = record { seconds = number 4 bytes; fraction = number 4 (drop 4 bytes); original = number 4 (drop 12 bytes); frame = take (number 4 (drop 8 bytes)) (drop record_len bytes) }
 
 -- the tests that a record passes
 record IsWhole (number : ℕ → List ℕ → ℕ) (bytes : List ℕ) : Type 0 where
-  head : RECORD_LEN ≤ length bytes
-  short : number 4 (drop 8 bytes) ≤ MAX_FRAME_LEN
-  body : number 4 (drop 8 bytes) ≤ length (drop RECORD_LEN bytes)
+  head : record_len ≤ length bytes
+  short : number 4 (drop 8 bytes) ≤ max_frame_len
+  body : number 4 (drop 8 bytes) ≤ length (drop record_len bytes)
 
 whole_from_ok : (number : ℕ → List ℕ → ℕ) (at : ℕ) (bytes : List ℕ) (t : Taken) → record_at number at bytes ≡ Ok t → IsWhole number bytes × (front_of number bytes ≡ t)
 unfolding record_at
 whole_from_ok number at bytes t e =
-    let a = passed (ltb (length bytes) RECORD_LEN) _ _ t e in
-    let b = passed (ltb MAX_FRAME_LEN (number 4 (drop 8 bytes))) _ _ t a.1 in
-    let d = passed (ltb (length (drop RECORD_LEN bytes)) (number 4 (drop 8 bytes))) _ _ t b.1 in
+    let a = passed (ltb (length bytes) record_len) _ _ t e in
+    let b = passed (ltb max_frame_len (number 4 (drop 8 bytes))) _ _ t a.1 in
+    let d = passed (ltb (length (drop record_len bytes)) (number 4 (drop 8 bytes))) _ _ t b.1 in
     (record { head = ltb-false _ _ a.0; short = ltb-false _ _ b.0; body = ltb-false _ _ d.0 }, ok_is _ t d.1)
 
 ok_from_whole : (number : ℕ → List ℕ → ℕ) (at : ℕ) (bytes : List ℕ) → IsWhole number bytes → record_at number at bytes ≡ Ok (front_of number bytes)
@@ -75,8 +75,8 @@ joined bytes n =
     simp append_assoc (rw (e16, e12, e8, e4, e0) refl)
 
 front_takes : (order : Order) (bytes : List ℕ) → IsBytes bytes → IsWhole (number_in order) bytes
-    → Takes bytes (record_of order (front_of (number_in order) bytes)) (drop (RECORD_LEN + length (take (number_in order 4 (drop 8 bytes)) (drop 16 bytes))) bytes)
-    × Fits (front_of (number_in order) bytes) × (RECORD_LEN + length (take (number_in order 4 (drop 8 bytes)) (drop 16 bytes)) ≤ length bytes)
+    → Takes bytes (record_of order (front_of (number_in order) bytes)) (drop (record_len + length (take (number_in order 4 (drop 8 bytes)) (drop 16 bytes))) bytes)
+    × Fits (front_of (number_in order) bytes) × (record_len + length (take (number_in order 4 (drop 8 bytes)) (drop 16 bytes)) ≤ length bytes)
 front_takes order bytes fits w =
     let n : ℕ = number_in order 4 (drop 8 bytes) in
     let long : 16 ≤ length bytes = w.head in
@@ -92,17 +92,17 @@ front_takes order bytes fits w =
     )
 
 pub record_takes : (order : Order) (at : ℕ) (bytes : List ℕ) (t : Taken) → IsBytes bytes → record_at (number_in order) at bytes ≡ Ok t
-    → Takes bytes (record_of order t) (drop (RECORD_LEN + length t.frame) bytes) × Fits t × (RECORD_LEN + length t.frame ≤ length bytes)
+    → Takes bytes (record_of order t) (drop (record_len + length t.frame) bytes) × Fits t × (record_len + length t.frame ≤ length bytes)
 record_takes order at bytes t fits e =
     let p = whole_from_ok (number_in order) at bytes t e in
-    subst (λ (u : Taken). Takes bytes (record_of order u) (drop (RECORD_LEN + length u.frame) bytes) × Fits u × (RECORD_LEN + length u.frame ≤ length bytes)) p.1 (front_takes order bytes fits p.0)
+    subst (λ (u : Taken). Takes bytes (record_of order u) (drop (record_len + length u.frame) bytes) × Fits u × (record_len + length u.frame ≤ length bytes)) p.1 (front_takes order bytes fits p.0)
 
 front_is : (number : ℕ → List ℕ → ℕ) (bytes : List ℕ) (t : Taken) → number 4 bytes ≡ t.seconds → number 4 (drop 4 bytes) ≡ t.fraction → number 4 (drop 12 bytes) ≡ t.original
-    → take (number 4 (drop 8 bytes)) (drop RECORD_LEN bytes) ≡ t.frame → front_of number bytes ≡ t
+    → take (number 4 (drop 8 bytes)) (drop record_len bytes) ≡ t.frame → front_of number bytes ≡ t
 front_is number bytes t s f o b = rw (s, f, o, b) refl
 
-pub record_len : (order : Order) (t : Taken) → length (record_of order t) ≡ RECORD_LEN + length t.frame
-record_len order t =
+pub length_of_record : (order : Order) (t : Taken) → length (record_of order t) ≡ record_len + length t.frame
+length_of_record order t =
     let a : List ℕ = bytes_in order 4 t.seconds in
     let b : List ℕ = bytes_in order 4 t.fraction in
     let c : List ℕ = bytes_in order 4 (length t.frame) in
@@ -134,7 +134,7 @@ record_again order at t rest fits =
     let f : number 4 (drop 4 text) ≡ t.fraction = ap (λ (x : List ℕ). number_in order 4 x) d4 ∙ number_again order 4 t.fraction _ fits.fraction in
     let l : number 4 (drop 8 text) ≡ length t.frame = ap (λ (x : List ℕ). number_in order 4 x) d8 ∙ number_again order 4 (length t.frame) _ (omega (arith, fits.len)) in
     let o : number 4 (drop 12 text) ≡ t.original = ap (λ (x : List ℕ). number_in order 4 x) d12 ∙ number_again order 4 t.original _ fits.original in
-    let frame : take (number 4 (drop 8 text)) (drop RECORD_LEN text) ≡ t.frame = rw (l, d16) (take_at t.frame rest (length t.frame) refl) in
+    let frame : take (number 4 (drop 8 text)) (drop record_len text) ≡ t.frame = rw (l, d16) (take_at t.frame rest (length t.frame) refl) in
     let long : length text ≡ 16 + (length t.frame + length rest) = omega (arith, length-append a (b ++ (c ++ (d ++ (t.frame ++ rest)))), length-append b (c ++ (d ++ (t.frame ++ rest))), length-append c (d ++ (t.frame ++ rest)), length-append d (t.frame ++ rest), length-append t.frame rest) in
     let w : IsWhole (number_in order) text = record { head = omega arith; short = rw l fits.len; body = rw (l, d16) (omega (arith, length-append t.frame rest)) } in
     rw whole (ok_from_whole (number_in order) at text w ∙ ap (λ (u : Taken). Ok u) (front_is (number_in order) text t s f o frame))
@@ -142,7 +142,7 @@ record_again order at t rest fits =
 -- ---- the records
 
 unrolled : (number : ℕ → List ℕ → ℕ) (room at : ℕ) (bytes : List ℕ) → 0 < length bytes
-    → frames_at number (suc room) at bytes ≡ (record_at number at bytes >>= λ first. frames_at number room (at + (RECORD_LEN + length first.frame)) (drop (RECORD_LEN + length first.frame) bytes) >>= λ others. Ok (first ∷ others))
+    → frames_at number (suc room) at bytes ≡ (record_at number at bytes >>= λ first. frames_at number room (at + (record_len + length first.frame)) (drop (record_len + length first.frame) bytes) >>= λ others. Ok (first ∷ others))
 unfolding frames_at
 unrolled number room at [] some = absurd (omega arith)
 unrolled number room at (b ∷ bytes) some = refl
@@ -158,12 +158,12 @@ unfolding frames_at
 frames_take order room at [] frames fits e = subst (λ (fs : List Taken). AreTaken order room [] fs) (ok_is [] frames e) (record { parts = refl; count = omega arith; each = tt })
 frames_take order zero at (b ∷ bytes) frames fits e = absurd cc
 frames_take order (suc room) at (b ∷ bytes) frames fits e =
-    let p = bind_ok (record_at (number_in order) at (b ∷ bytes)) (λ first. frames_at (number_in order) room (at + (RECORD_LEN + length first.frame)) (drop (RECORD_LEN + length first.frame) (b ∷ bytes)) >>= λ others. Ok (first ∷ others)) frames e in
+    let p = bind_ok (record_at (number_in order) at (b ∷ bytes)) (λ first. frames_at (number_in order) room (at + (record_len + length first.frame)) (drop (record_len + length first.frame) (b ∷ bytes)) >>= λ others. Ok (first ∷ others)) frames e in
     let t : Taken = p.0 in
-    let rest : List ℕ = drop (RECORD_LEN + length t.frame) (b ∷ bytes) in
-    let q = bind_ok (frames_at (number_in order) room (at + (RECORD_LEN + length t.frame)) rest) (λ others. Ok (t ∷ others)) frames p.2 in
+    let rest : List ℕ = drop (record_len + length t.frame) (b ∷ bytes) in
+    let q = bind_ok (frames_at (number_in order) room (at + (record_len + length t.frame)) rest) (λ others. Ok (t ∷ others)) frames p.2 in
     let one = record_takes order at (b ∷ bytes) t fits p.1 in
-    let more = frames_take order room (at + (RECORD_LEN + length t.frame)) rest q.0 one.0.rest_fits q.1 in
+    let more = frames_take order room (at + (record_len + length t.frame)) rest q.0 one.0.rest_fits q.1 in
     subst (λ (fs : List Taken). AreTaken order (suc room) (b ∷ bytes) fs) (ok_is (t ∷ q.0) frames q.2)
     (record { parts = one.0.parts ∙ ap (λ (x : List ℕ). record_of order t ++ x) more.parts; count = omega (arith, more.count); each = (one.1, more.each) })
 
@@ -173,8 +173,8 @@ frames_again order room at [] le fits = refl
 frames_again order zero at (t ∷ ts) le fits = absurd (omega arith)
 frames_again order (suc room) at (t ∷ ts) le fits =
     let rest : List ℕ = flat_map (record_of order) ts in
-    let len : length (record_of order t) ≡ RECORD_LEN + length t.frame = record_len order t in
+    let len : length (record_of order t) ≡ record_len + length t.frame = length_of_record order t in
     let some : 0 < length (record_of order t ++ rest) = omega (arith, length-append (record_of order t) rest) in
-    let left : drop (RECORD_LEN + length t.frame) (record_of order t ++ rest) ≡ rest = drop_at (record_of order t) rest (RECORD_LEN + length t.frame) len in
+    let left : drop (record_len + length t.frame) (record_of order t ++ rest) ≡ rest = drop_at (record_of order t) rest (record_len + length t.frame) len in
     unrolled (number_in order) room at (record_of order t ++ rest) some
-    ∙ rw (record_again order at t rest fits.0) (rw (left, frames_again order room (at + (RECORD_LEN + length t.frame)) ts (omega arith) fits.1) refl)
+    ∙ rw (record_again order at t rest fits.0) (rw (left, frames_again order room (at + (record_len + length t.frame)) ts (omega arith) fits.1) refl)

@@ -5,7 +5,7 @@ use Rattle.and_capture.specs.declared.capture.Taken.{Taken}
 use Rattle.and_capture.specs.declared.capture.Capture.{Capture}
 use Rattle.and_capture.specs.declared.fault.CaptureFault.{CaptureFault}
 use Rattle.and_capture.specs.declared.fault.CaptureFault.TheVariants.{CutHeader, Magic, Major, LinkType, CutRecord, LongRecord, TooMany, NoMemory}
-use Rattle.and_capture.specs.declared.TheConstants.{HEADER_LEN, RECORD_LEN, MAX_FRAMES, MAX_FRAME_LEN}
+use Rattle.and_capture.specs.Spelling.{header_len, record_len, max_frames, max_frame_len}
 use Rattle.and_capture.specs.Spelling.{Order, little, big, number_in, magic_of}
 
 infixl 10 ◌>>=◌
@@ -26,10 +26,10 @@ Gives view (Err e) read = Fails e read
 unfoldable pub record_at : (ℕ → List ℕ → ℕ) → ℕ → List ℕ → Result Taken CaptureFault
 record_at number at bytes =
     let captured = number 4 (drop 8 bytes) in
-    if nat_lt (length bytes) RECORD_LEN then Err (CutRecord at)
-    else (if nat_lt MAX_FRAME_LEN captured then Err (LongRecord at)
-    else (if nat_lt (length (drop RECORD_LEN bytes)) captured then Err (CutRecord at)
-    else Ok (record { seconds = number 4 bytes; fraction = number 4 (drop 4 bytes); original = number 4 (drop 12 bytes); frame = take captured (drop RECORD_LEN bytes) })))
+    if nat_lt (length bytes) record_len then Err (CutRecord at)
+    else (if nat_lt max_frame_len captured then Err (LongRecord at)
+    else (if nat_lt (length (drop record_len bytes)) captured then Err (CutRecord at)
+    else Ok (record { seconds = number 4 bytes; fraction = number 4 (drop 4 bytes); original = number 4 (drop 12 bytes); frame = take captured (drop record_len bytes) })))
 
 -- the frames of the records up to the end, where there is room for so many
 unfoldable pub frames_at : (ℕ → List ℕ → ℕ) → ℕ → ℕ → List ℕ → Result (List Taken) CaptureFault
@@ -37,7 +37,7 @@ frames_at number room at [] = Ok []
 frames_at number zero at (b ∷ bytes) = Err TooMany
 frames_at number (suc room) at (b ∷ bytes) = do
   first ← record_at number at (b ∷ bytes)
-  others ← frames_at number room (at + (RECORD_LEN + length first.frame)) (drop (RECORD_LEN + length first.frame) (b ∷ bytes))
+  others ← frames_at number room (at + (record_len + length first.frame)) (drop (record_len + length first.frame) (b ∷ bytes))
   Ok (first ∷ others)
 
 -- the capture of a file whose byte order and unit are known
@@ -45,7 +45,7 @@ unfoldable pub capture_in : (ℕ → List ℕ → ℕ) → Bool → List ℕ →
 capture_in number nanos bytes =
     if number 2 (drop 4 bytes) == 2 then
     (if number 4 (drop 20 bytes) == 1 then
-    (frames_at number MAX_FRAMES HEADER_LEN (drop HEADER_LEN bytes) >>= λ frames. Ok (record { nanos = nanos; frames = frames }))
+    (frames_at number max_frames header_len (drop header_len bytes) >>= λ frames. Ok (record { nanos = nanos; frames = frames }))
     else Err LinkType)
     else Err Major
 
@@ -64,4 +64,4 @@ capture_by (Some style) bytes = capture_in (number_in style.0) style.1 bytes
 
 -- the capture that the bytes spell, or the first check that fails
 unfoldable pub reading : List ℕ → Result Capture CaptureFault
-reading bytes = if nat_lt (length bytes) HEADER_LEN then Err CutHeader else capture_by (style_at bytes) bytes
+reading bytes = if nat_lt (length bytes) header_len then Err CutHeader else capture_by (style_at bytes) bytes

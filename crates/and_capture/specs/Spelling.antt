@@ -5,7 +5,20 @@ use Rattle.std.specs.Prelude.{nat_eq}
 use Rattle.byteorder.specs.Endian.{big_bytes, big_number, little_bytes, little_number}
 use Rattle.and_capture.specs.declared.capture.Taken.{Taken}
 use Rattle.and_capture.specs.declared.capture.Capture.{Capture}
-use Rattle.and_capture.specs.declared.TheConstants.{MAX_FRAMES, MAX_FRAME_LEN}
+
+-- the bytes of a capture's header, and of a record's header before the captured bytes
+abbrev pub header_len : ℕ
+header_len = 24
+
+abbrev pub record_len : ℕ
+record_len = 16
+
+-- the most frames of a capture, and the most bytes of one
+abbrev pub max_frames : ℕ
+max_frames = 100000
+
+abbrev pub max_frame_len : ℕ
+max_frame_len = 262144
 
 -- the order of the bytes of a file's numbers
 pub data Order : Type 0 where
@@ -42,11 +55,11 @@ pub record Fits (t : Taken) : Type 0 where
   pub seconds : t.seconds < 2 ^ 32
   pub fraction : t.fraction < 2 ^ 32
   pub original : t.original < 2 ^ 32
-  pub len : length t.frame ≤ MAX_FRAME_LEN
+  pub len : length t.frame ≤ max_frame_len
 
 -- a capture that a file can hold
 pub record IsWithinLimits (capture : Capture) : Type 0 where
-  pub count : length capture.frames ≤ MAX_FRAMES
+  pub count : length capture.frames ≤ max_frames
   pub each : AllByRecursion Fits capture.frames
 
 -- The text is a file of the capture: a header of link type 1, Ethernet, then one record for each frame,
@@ -61,12 +74,8 @@ pub record Spells (text : List ℕ) (capture : Capture) : Type 0 where
 -- the header that is written: low byte first, version 2.4, no time zone and accuracy, and the largest frame as
 -- snapshot length
 abbrev pub written_header : Bool → ℕ → List ℕ
-written_header nanos link = header little nanos (little_bytes 2 4 ++ (little_bytes 4 0 ++ (little_bytes 4 0 ++ little_bytes 4 MAX_FRAME_LEN))) link
+written_header nanos link = header little nanos (little_bytes 2 4 ++ (little_bytes 4 0 ++ (little_bytes 4 0 ++ little_bytes 4 max_frame_len))) link
 
 -- the one file that is written for a capture under a link type
 abbrev pub written : ℕ → Capture → List ℕ
 written link capture = written_header capture.nanos link ++ flat_map (record_of little) capture.frames
-
--- whether a text begins as a file with the low byte first and microseconds does
-abbrev pub is_little_micros : List ℕ → Bool
-is_little_micros text = starts_with nat_eq text (0xd4 ∷ 0xc3 ∷ 0xb2 ∷ 0xa1 ∷ [])

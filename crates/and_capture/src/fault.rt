@@ -22,8 +22,6 @@ pub enum CaptureFault {
     LongRecord { at: u64 },
     /// There are bytes after 100,000 records.
     TooMany,
-    /// A capture of a kind that the caller does not take yet. [`crate::read_capture`] never answers it.
-    NotBuilt,
     /// Memory ran out.
     NoMemory,
 }

@@ -12,8 +12,6 @@ mod bytes;
 mod capture;
 mod fault;
 mod reading;
-#[cfg(test)]
-mod tests;
 mod writing;
 
 pub use bytes::Bytes;

@@ -112,7 +112,6 @@ pub fn read_capture(alloc: Global, bytes: &[u8]) -> Result<Capture, CaptureFault
     // The capture, or the first check that fails.
     ensures capture { IfOk result (λ capture. reading bytes.now ≡ Ok capture) }
     ensures fault { IfErr result (λ fault. fault ≢ CaptureFault.NoMemory → reading bytes.now ≡ Err fault) }
-    ensures never_not_built { result ≢ Err CaptureFault.NotBuilt }
 {
     any_capture_of(alloc, bytes)
 }

@@ -1,3 +1,4 @@
 pub mod Causes
+pub mod Disk
 pub mod Memory
 pub mod Places

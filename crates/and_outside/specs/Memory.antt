@@ -4,6 +4,8 @@ use Rattle.std.specs.List.{list_any}
 use Rattle.std.specs.Option.{option_or}
 use Rattle.std.specs.Str.{bytes_eq}
 use Rattle.and_outside.specs.Causes.{raised}
+use Rattle.and_outside.specs.Disk.{Disk}
+use Rattle.and_outside.specs.declared.counts.Counts.{Counts}
 
 -- a name, and what it was given to hold
 pub record Kept : Type 0 where
@@ -16,7 +18,7 @@ content_of [] name = None
 content_of (k ∷ ks) name = option_or (content_of ks name) (if bytes_eq k.name name then Some k.bytes else None)
 
 -- files in memory: what is there, the oldest first, the numbers of the calls that fail, the number
--- of the next call, the places and bytes that are left, and the counts
+-- of the next call, the places and bytes that are left, the counts, and what these were when the last call began
 pub record Shelf : Type 0 where
   pub kept : List Kept
   pub failing : List ℕ
@@ -26,11 +28,15 @@ pub record Shelf : Type 0 where
   pub read_faults : ℕ
   pub write_faults : ℕ
   pub taken : ℕ
+  pub before : Counts
+
+abbrev pub no_counts : Counts
+no_counts = record { read_faults = 0; write_faults = 0; taken = 0 }
 
 -- nothing is there yet
 abbrev pub empty_shelf : ℕ → ℕ → List ℕ → Shelf
 empty_shelf places room failing =
-    record { kept = []; failing = failing; next = 0; places = places; room = room; read_faults = 0; write_faults = 0; taken = 0 }
+    record { kept = []; failing = failing; next = 0; places = places; room = room; read_faults = 0; write_faults = 0; taken = 0; before = no_counts }
 
 -- the number is in the list
 abbrev pub is_listed : List ℕ → ℕ → Bool
@@ -48,9 +54,26 @@ with_file s name bytes = record s {
   room = s.room - (length name + length bytes);
 }
 
--- the next call is counted
-abbrev pub counted : Shelf → Shelf
-counted s = record s { next = raised 1 s.next }
+-- as files are seen by their callers: they are calm where no call is to fail, and tell everything
+abbrev pub disk_of : Shelf → Disk
+disk_of s =
+    record {
+      read_faults = s.read_faults;
+      write_faults = s.write_faults;
+      taken = s.taken;
+      calm = is_empty s.failing;
+      tells = true;
+      content = content_of s.kept;
+      calls = s.next;
+      before = s.before;
+    }
+
+abbrev pub counts_in : Shelf → Counts
+counts_in s = record { read_faults = s.read_faults; write_faults = s.write_faults; taken = s.taken }
+
+-- the next call begins: it is counted, and finds these counts
+abbrev pub begun : Shelf → Shelf
+begun s = record s { next = raised 1 s.next; before = counts_in s }
 
 -- the next read of the name fails
 abbrev pub read_fails : Shelf → List ℕ → Bool
@@ -58,11 +81,11 @@ read_fails s name = is_listed s.failing s.next || is_none (content_of s.kept nam
 
 -- after a read that fails
 abbrev pub after_failed_read : Shelf → Shelf
-after_failed_read s = record s { next = raised 1 s.next; read_faults = raised 1 s.read_faults }
+after_failed_read s = record (begun s) { read_faults = raised 1 s.read_faults }
 
 -- after a read that took n bytes
 abbrev pub after_read : Shelf → ℕ → Shelf
-after_read s n = record s { next = raised 1 s.next; taken = raised n s.taken }
+after_read s n = record (begun s) { taken = raised n s.taken }
 
 -- the next write, of the bytes to the name, fails
 abbrev pub write_fails : Shelf → List ℕ → List ℕ → Bool
@@ -73,8 +96,8 @@ write_fails s name bytes =
 abbrev pub after_write : Shelf → List ℕ → List ℕ → Shelf
 after_write s name bytes =
     if write_fails s name bytes
-    then record s { next = raised 1 s.next; write_faults = raised 1 s.write_faults }
-    else record (with_file s name bytes) { next = raised 1 s.next }
+    then record (begun s) { write_faults = raised 1 s.write_faults }
+    else with_file (begun s) name bytes
 
 -- a sink in memory: what was written, the numbers of the puts that fail, the number of the next put,
 -- the bytes that are left, and the count

@@ -1,11 +1,13 @@
 //! Files that are kept in memory.
 ghost use Rattle.std.specs.Prelude.{◌≡◌, ◌≢◌, ◌≤◌, ◌<◌, ◌+◌, ◌↔◌, ◌⊎◌, ℕ, List, length, MatchResult, IfOk, IfErr, OnOk, OnErr, IsErr, IsErrOf, IsTrue, Some, true, All, IfSome, option_map, vec_len, ◌++◌, if◌then◌else◌, None, false};
 ghost use Rattle.std.specs.Vec.{vec_capacity};
-ghost use Rattle.and_outside.specs.Causes.{Rose, RoseBy, TellsLength};
-ghost use Rattle.and_outside.specs.Memory.{content_of, empty_shelf, with_file, read_fails, after_failed_read, after_read, write_fails, after_write, is_empty};
+ghost use Rattle.and_outside.specs.Causes.{Rose, RoseBy, TellsLength, raised};
+ghost use Rattle.and_outside.specs.Disk.{counts_of};
+ghost use Rattle.and_outside.specs.Memory.{content_of, disk_of, empty_shelf, with_file, begun, read_fails, after_failed_read, after_read, write_fails, after_write};
 ghost use Rattle.and_outside.specs.Places.{kept_in, IsWithin, content_at};
 
 use crate::answer::{Failed, NoMemory, ReadAnswer};
+use crate::counts::Counts;
 use crate::files::Files;
 use crate::numbers::is_failing;
 use crate::place::Place;
@@ -27,6 +29,7 @@ pub struct MemoryFiles {
     read_faults: u64,
     write_faults: u64,
     taken: u64,
+    before: Counts,
 }
 
 impl Model for MemoryFiles {
@@ -46,6 +49,7 @@ impl Model for MemoryFiles {
       read_faults = f.read_faults;
       write_faults = f.write_faults;
       taken = f.taken;
+      before = f.before;
     } };
 
     // The memory for all that is still to come is there, and every place is among the bytes.
@@ -84,6 +88,11 @@ impl MemoryFiles {
             read_faults: 0,
             write_faults: 0,
             taken: 0,
+            before: Counts {
+                read_faults: 0,
+                write_faults: 0,
+                taken: 0,
+            },
         })
     }
 
@@ -116,42 +125,48 @@ impl MemoryFiles {
             || self.places_left == 0
             || self.room < (name.len() + bytes.len()) as u64
     }
+
+    /// Counts a call that begins.
+    fn begin(&mut self)
+        ensures { self.new ≡ begun self.old }
+    {
+        self.next = self.next.saturating_add(1);
+        self.before = Counts {
+            read_faults: self.read_faults,
+            write_faults: self.write_faults,
+            taken: self.taken,
+        };
+    }
 }
 
 impl Files for MemoryFiles {
-    ghost read_faults = { λ f. f.read_faults };
-
-    ghost write_faults = { λ f. f.write_faults };
-
-    ghost taken = { λ f. f.taken };
-
-    ghost calm = { λ f. is_empty f.failing };
-
-    ghost content = { λ f name. content_of f.kept name };
+    ghost disk = { λ f. disk_of f };
 
     /// Fails exactly where the number of the call is in the list or the name is not there. All of a
     /// content that is there counts as taken.
     fn read(&mut self, alloc: Global, name: &str, limit: u64) -> Result<Vec<u8>, ReadAnswer>
         ensures within { IfOk result (λ v. length v.items ≤ limit) }
-        ensures told { (t : List ℕ) → content_of self.old.kept name.now ≡ Some t → IfOk result (λ v. v.items ≡ t) }
-        ensures failed { IfErr result (λ e. e ≡ ReadAnswer.Failed → Rose self.old.read_faults self.new.read_faults) }
-        ensures calm_told { (t : List ℕ) → content_of self.old.kept name.now ≡ Some t → is_empty self.old.failing ≡ true
+        ensures told { (t : List ℕ) → (disk_of self.old).content name.now ≡ Some t → IfOk result (λ v. v.items ≡ t) }
+        ensures failed { IfErr result (λ e. e ≡ ReadAnswer.Failed → Rose (disk_of self.old).read_faults (disk_of self.new).read_faults) }
+        ensures calm_told { (t : List ℕ) → (disk_of self.old).content name.now ≡ Some t → (disk_of self.old).calm ≡ true
             → IfErr result (λ e. e ≢ ReadAnswer.Failed) }
-        ensures too_long { IfErr result (λ e. e ≡ ReadAnswer.TooLong → RoseBy limit self.old.taken self.new.taken) }
-        ensures exact { (t : List ℕ) → content_of self.old.kept name.now ≡ Some t
-            → (is_empty self.old.failing ≡ true) ⊎ (¬ Rose self.old.read_faults self.new.read_faults)
+        ensures too_long { IfErr result (λ e. e ≡ ReadAnswer.TooLong → RoseBy limit (disk_of self.old).taken (disk_of self.new).taken) }
+        ensures exact { (t : List ℕ) → (disk_of self.old).content name.now ≡ Some t
+            → ((disk_of self.old).calm ≡ true) ⊎ (¬ Rose (disk_of self.old).read_faults (disk_of self.new).read_faults)
             → MatchResult result (λ _. length t ≤ limit) (λ e. TellsLength e limit (length t)) }
-        ensures contents_stay { (n : List ℕ) → content_of self.new.kept n ≡ content_of self.old.kept n }
-        ensures calm_stays { is_empty self.old.failing ≡ true → is_empty self.new.failing ≡ true }
-        ensures counts { (self.old.read_faults ≤ self.new.read_faults) × (self.new.write_faults ≡ self.old.write_faults)
-            × (self.old.taken ≤ self.new.taken) }
+        ensures contents_stay { (n : List ℕ) → (disk_of self.new).content n ≡ (disk_of self.old).content n }
+        ensures calm_stays { (disk_of self.old).calm ≡ true → (disk_of self.new).calm ≡ true }
+        ensures tells_stays { (disk_of self.old).tells ≡ true → (disk_of self.new).tells ≡ true }
+        ensures counts { ((disk_of self.old).read_faults ≤ (disk_of self.new).read_faults) × ((disk_of self.new).write_faults ≡ (disk_of self.old).write_faults)
+            × ((disk_of self.old).taken ≤ (disk_of self.new).taken) }
+        ensures call { ((disk_of self.new).calls ≡ raised 1 (disk_of self.old).calls) × ((disk_of self.new).before ≡ counts_of (disk_of self.old)) }
         ensures fails { IsErrOf result ReadAnswer.Failed ↔ IsTrue (read_fails self.old name.now) }
         ensures after_fault { IsTrue (read_fails self.old name.now) → self.new ≡ after_failed_read self.old }
         ensures after { (t : List ℕ) → read_fails self.old name.now ≡ false → content_of self.old.kept name.now ≡ Some t
             → self.new ≡ after_read self.old (length t) }
     {
         let fails = is_failing(&self.failing, self.next);
-        self.next = self.next.saturating_add(1);
+        self.begin();
         let found = find(&self.bytes, &self.places, name);
         let Some(place) = allowed(fails, found) else {
             self.read_faults = self.read_faults.saturating_add(1);
@@ -165,19 +180,21 @@ impl Files for MemoryFiles {
     /// Fails exactly where the number of the call is in the list, or where no place or not enough
     /// room is left. A write that fails uses nothing and leaves every name as it was.
     fn write(&mut self, name: &str, bytes: &[u8]) -> Result<(), Failed>
-        ensures written { OnOk result ((t : List ℕ) → content_of self.new.kept name.now ≡ Some t → t ≡ bytes.now) }
-        ensures still_told { OnOk result ((t : List ℕ) → content_of self.old.kept name.now ≡ Some t → content_of self.new.kept name.now ≡ Some bytes.now) }
-        ensures others_stay { (n : List ℕ) → n ≢ name.now → content_of self.new.kept n ≡ content_of self.old.kept n }
-        ensures failed { OnErr result (Rose self.old.write_faults self.new.write_faults) }
-        ensures calm_stays { is_empty self.old.failing ≡ true → is_empty self.new.failing ≡ true }
-        ensures counts { (self.new.read_faults ≡ self.old.read_faults) × (self.old.write_faults ≤ self.new.write_faults)
-            × (self.old.taken ≤ self.new.taken) }
+        ensures written { OnOk result ((t : List ℕ) → (disk_of self.new).content name.now ≡ Some t → t ≡ bytes.now) }
+        ensures still_told { OnOk result ((t : List ℕ) → (disk_of self.old).content name.now ≡ Some t → (disk_of self.new).content name.now ≡ Some bytes.now) }
+        ensures told { OnOk result ((disk_of self.old).tells ≡ true → (disk_of self.new).content name.now ≡ Some bytes.now) }
+        ensures others_stay { (n : List ℕ) → n ≢ name.now → (disk_of self.new).content n ≡ (disk_of self.old).content n }
+        ensures failed { OnErr result (Rose (disk_of self.old).write_faults (disk_of self.new).write_faults) }
+        ensures calm_stays { (disk_of self.old).calm ≡ true → (disk_of self.new).calm ≡ true }
+        ensures tells_stays { (disk_of self.old).tells ≡ true → (disk_of self.new).tells ≡ true }
+        ensures counts { ((disk_of self.new).read_faults ≡ (disk_of self.old).read_faults) × ((disk_of self.old).write_faults ≤ (disk_of self.new).write_faults)
+            × ((disk_of self.old).taken ≤ (disk_of self.new).taken) }
+        ensures call { ((disk_of self.new).calls ≡ raised 1 (disk_of self.old).calls) × ((disk_of self.new).before ≡ counts_of (disk_of self.old)) }
         ensures fails { IsErr result ↔ IsTrue (write_fails self.old name.now bytes.now) }
         ensures after { self.new ≡ after_write self.old name.now bytes.now }
-        ensures told { OnOk result (content_of self.new.kept name.now ≡ Some bytes.now) }
     {
         let refuses = self.refuses(name, bytes);
-        self.next = self.next.saturating_add(1);
+        self.begin();
         if refuses {
             self.write_faults = self.write_faults.saturating_add(1);
             return Err(Failed);

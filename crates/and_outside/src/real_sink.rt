@@ -4,6 +4,7 @@ ghost use Rattle.std.specs.Prelude.{◌≡◌};
 
 use crate::answer::Failed;
 use crate::sink::Sink;
+use crate::writing::write_all;
 use std::io::Write;
 
 /// Puts into a writer that keeps no bytes back, as standard output. Of what was written nothing is
@@ -21,22 +22,6 @@ impl<W: Write + Drop> RealSink<W> {
     {
         RealSink { writer, faults: 0 }
     }
-
-    /// Writes all bytes, and says whether that was done. A write that takes nothing of what is left
-    /// is a failure.
-    fn write_all(&mut self, bytes: &[u8]) -> bool
-        ensures { self.new.faults ≡ self.old.faults }
-    {
-        let mut at = 0;
-        while at < bytes.len() {
-            match self.writer.write(&bytes[at..]) {
-                Ok(0) => return false,
-                Ok(count) => at += count,
-                Err(_) => return false,
-            }
-        }
-        true
-    }
 }
 
 impl<W: Write + Drop> Sink for RealSink<W> {
@@ -47,7 +32,7 @@ impl<W: Write + Drop> Sink for RealSink<W> {
     ghost written = { λ _. None };
 
     fn put(&mut self, bytes: &[u8]) -> Result<(), Failed> {
-        if self.write_all(bytes) {
+        if write_all(&mut self.writer, bytes) {
             return Ok(());
         }
         self.faults = self.faults.saturating_add(1);

@@ -1,5 +1,8 @@
-pub mod BuiltItems
+pub mod Walks
+pub mod Frees
+pub mod Items
+pub mod Planned
+pub mod Building
 pub mod Planning
 pub mod Promises
 pub mod Sourcing
-pub mod TestsLemmas

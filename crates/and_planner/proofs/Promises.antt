@@ -7,8 +7,8 @@ use Rattle.and_events.specs.declared.plan.Plan.{Plan}
 use Rattle.and_events.specs.declared.plan.Scenario.{Scenario}
 use Rattle.and_events.specs.Planned.{planned}
 use Rattle.and_events.specs.Sound.{IsSound, IsBuilt}
-use Rattle.and_planned.proofs.Planned.{planned_is_sound}
-use Rattle.and_planned.proofs.Built.{planned_is_built}
+use Rattle.and_planner.proofs.Planned.{planned_is_sound}
+use Rattle.and_planner.proofs.Building.{planned_is_built}
 use Rattle.and_planner.specs.Plans.{CanPlan}
 
 pub sound_plan : (scenario : Scenario) (capture : Capture) → CanPlan scenario capture → (r : Result Plan NoMemory) → IfOk r (λ p. p ≡ planned scenario capture) → IfOk r (λ p. IsSound p)

@@ -1,5 +1,4 @@
-pub mod FirstItems
-pub mod Small
+pub mod Scenarios
 pub mod Plans
 pub mod Sources
 pub mod Planners

@@ -3,7 +3,7 @@ ghost use Rattle.std.specs.Prelude.{◌≡◌, ◌≤◌, length, IfOk};
 ghost use Rattle.std.specs.List.{AllPass};
 ghost use Rattle.and_events.specs.Planned.{planned, items_applied, nothing_planned};
 ghost use Rattle.and_events.specs.Sound.{IsSound, IsBuilt};
-ghost use Rattle.and_planner.specs.FirstItems.{is_first_item};
+ghost use Rattle.and_planner.specs.Scenarios.{is_built_item};
 ghost use Rattle.and_planner.specs.Planners.{planning_of};
 ghost use Rattle.and_planner.specs.Plans.{CanPlan};
 
@@ -20,7 +20,7 @@ fn apply_all(
     items: &[Item],
     frames: Vec<Taken>,
 ) -> Result<Planner, NoMemory>
-    requires first { AllPass is_first_item items.now }
+    requires built { AllPass is_built_item items.now }
     requires items { length items.now ≤ 65536 }
     requires frames { length frames.items ≤ 100000 }
     ensures planning { IfOk result (λ p. planning_of p ≡ items_applied settings.now 0 items.now (nothing_planned frames.items)) }

@@ -4,7 +4,7 @@ ghost use Rattle.and_policy.specs.Frames.{fields};
 ghost use Rattle.and_policy.specs.LogView.{is_first};
 ghost use Rattle.and_events.specs.Planned.{send_frame, send_frames, frames_of, sendable, nothing_planned, item_applied};
 ghost use Rattle.and_events.specs.Script.{item_fault};
-ghost use Rattle.and_planner.specs.FirstItems.{is_first_item};
+ghost use Rattle.and_planner.specs.Scenarios.{is_built_item};
 ghost use Rattle.and_planner.specs.Planners.{planning_of, script_of, sender_of, frame_planned, frame_skipped, KeepsOrder, entry_fault};
 
 use crate::written::Written;
@@ -168,7 +168,7 @@ impl Planner {
 
     /// Applies the item of this number.
     pub fn apply(&mut self, alloc: Global, number: u32, item: &Item) -> Result<(), NoMemory>
-        requires first { is_first_item item.now ≡ true }
+        requires built { is_built_item item.now ≡ true }
         requires frame { self.old.frame + length self.old.frames.items ≤ 100000 }
         requires packets { length self.old.packets ≤ self.old.frame }
         ensures planning { OnOk result ((s : Settings) → s.hosts ≡ self.old.written.hosts

@@ -26,7 +26,7 @@ use Rattle.and_script.specs.Forms.{texted}
 use Rattle.and_script.specs.Tables.{Row, top_rows, command_of, item_rows, vm_row, has_peer, text_in}
 use Rattle.and_script.specs.Grammar as grammar
 use Rattle.and_script.specs.Grammar.{◌>>=◌, Refusal, Fault, Written, at_field, left_out, found_or_left_out, field_of, fields_of, first_unknown, known_only, names_of_rows, members_given, may_seal, seals_wrongly, sealed_well, commanded, told_to, item_in, item_of, at_item, items_of, item_count, target_by, item_with, with_name, number_of, names_from, items_from, scenario_with, script_in, scripted, settings_by, at_top, top_in, scenario_of}
-use Rattle.and_planned.specs.Scenarios.{IsItem, IsScenario}
+use Rattle.and_planner.specs.Scenarios.{IsItem, IsScenario}
 use Rattle.and_script.specs.declared.fault.ScenarioFault.{ScenarioFault}
 use Rattle.and_script.specs.Defaults.{HasDefaults}
 use Rattle.and_script.proofs.Gives.{Gives, form_gives}

@@ -1,6 +1,7 @@
 -- What the readers answer, beside what the definitions say.
 use Rattle.std.specs.Prelude.{◌≡◌, ℕ, Bool, true, false, List, [], ◌∷◌, ◌++◌, Option, Some, None, Result, Ok, Err, codes}
 use Rattle.serde_json.specs.Data.{Data, Members}
+use Rattle.and_events.specs.declared.plan.Scenario.{Scenario}
 use Rattle.and_script.specs.declared.refusal.Refusal.{Refusal}
 use Rattle.and_script.specs.declared.refusal.Refusal.TheVariants.{At, Whole, NoMemory}
 use Rattle.and_script.specs.declared.tables.Given.{Given}
@@ -91,3 +92,7 @@ abbrev pub TellsOf : List ℕ → ScenarioFault → Type 0
 TellsOf bytes faults.NoMemory = Unit {0}
 TellsOf bytes faults.NotJson = (d : Data) → grammar.IsJson bytes d → ⊥
 TellsOf bytes fault = (d : Data) × grammar.IsJson bytes d × Tells fault (grammar.scenario_of d)
+
+-- the bytes are the JSON text of this scenario
+abbrev pub IsText : List ℕ → Scenario → Type 0
+IsText bytes scenario = (d : Data) × grammar.IsJson bytes d × (grammar.scenario_of d ≡ Ok scenario)

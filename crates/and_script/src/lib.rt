@@ -2,10 +2,11 @@
 //!
 //! [`read_scenario`] takes exactly the texts that the tables of items and fields (`specs/Tables.antt`) give, by one order of checks for an
 //! object and one for a field (`specs/Grammar.antt`); of any other text it tells the first check that fails, and where. VM names are
-//! numbered in the order in which they first stand in the script. It stands on `serde_json`'s meaning of the bytes.
+//! numbered in the order in which they first stand in the script. The plan of what was read is [`plan`]. It stands on `and_planner` for the plan and on `serde_json`'s meaning of the bytes.
 #![tactic(auto)]
 
 pub use and_events::{Item, Scenario};
+pub use and_planner::{is_built, plan};
 pub use fault::ScenarioFault;
 pub use scenario::{read_scenario, read_value, scenario_of};
 
@@ -18,6 +19,4 @@ mod refusal;
 mod scenario;
 mod script;
 mod tables;
-#[cfg(test)]
-mod tests;
 mod words;

@@ -6,9 +6,9 @@ ghost use Rattle.serde_json.specs.Find.{get, as_array, as_object};
 ghost use Rattle.serde_json.specs.View.{view, items_view};
 ghost use Rattle.and_script.specs.Grammar as grammar;
 ghost use Rattle.and_script.specs.Tables.{top_rows};
-ghost use Rattle.and_planned.specs.Scenarios.{IsScenario};
+ghost use Rattle.and_planner.specs.Scenarios.{IsScenario};
 ghost use Rattle.and_script.specs.Defaults.{HasDefaults};
-ghost use Rattle.and_script.specs.Answers.{Says, RefusesAt, Tells, TellsOf, IsFault, IsFaultOr, spot_of, TopFault, ItemFault};
+ghost use Rattle.and_script.specs.Answers.{Says, RefusesAt, Tells, TellsOf, IsText, IsFault, IsFaultOr, spot_of, TopFault, ItemFault};
 
 use crate::fault::ScenarioFault;
 use crate::fields::read_members;
@@ -21,6 +21,9 @@ use and_events::{Items, Scenario, Settings};
 use and_policy::NoMemory;
 use serde_json::Value;
 use std::alloc::Global;
+
+/// The most items of a script.
+const MAX_ITEMS: usize = 65_536;
 
 /// The JSON value of the bytes. An error where they are not read as JSON, and where memory is wanting.
 pub fn read_value(alloc: Global, bytes: &[u8]) -> Result<Value, ScenarioFault>
@@ -186,7 +189,7 @@ fn read_script(
     ensures found { IfOk result (λ s. grammar.scripted settings (items_view script.now) ≡ Ok s) }
     ensures refused { IfErr result (λ e. Tells e (grammar.scripted settings (items_view script.now))) }
 {
-    if 65536 < script.len() {
+    if MAX_ITEMS < script.len() {
         return Err(at_top(alloc, Cause::Limit, Some("script")));
     }
     let mut names = Names::new(alloc);
@@ -231,7 +234,7 @@ pub fn scenario_of(alloc: Global, value: &Value) -> Result<Scenario, ScenarioFau
 /// path. A plan can be made of what is read: its numbers are in their ranges, it names at most 65,536 VMs, each VM's number is
 /// that of a name, and no item places a VM.
 pub fn read_scenario(alloc: Global, bytes: &[u8]) -> Result<Scenario, ScenarioFault>
-    ensures found { IfOk result (λ s. (d : Data) × grammar.IsJson bytes.now d × (grammar.scenario_of d ≡ Ok s)) }
+    ensures found { IfOk result (λ s. IsText bytes.now s) }
     ensures fits { IfOk result (λ s. IsScenario s) }
     ensures refused { IfErr result (λ e. TellsOf bytes.now e) }
 {

@@ -18,17 +18,17 @@ use Rattle.and_report.specs.Report.{report}
 use Rattle.and_trace.specs.Spelling.{HaveSpellings, IsSpelled, trace}
 use Rattle.and_trace.proofs.Runs.{runs_have_spellings}
 use Rattle.and_top.specs.declared.texts.Texts.{Texts}
-use Rattle.and_outside.specs.Causes.{Rose}
-use Rattle.and_planned.proofs.Planned.{planned_is_sound}
-use Rattle.and_planned.proofs.Built.{planned_is_built}
-use Rattle.and_top.specs.declared.TheConstants.{MOST_HOSTS}
+use Rattle.and_outside.specs.Disk.{Disk}
+use Rattle.and_planner.proofs.Planned.{planned_is_sound}
+use Rattle.and_planner.proofs.Building.{planned_is_built}
 use Rattle.and_top.specs.declared.answers.Which.TheVariants as which
 use Rattle.and_top.specs.declared.answers.Fault.{Fault}
 use Rattle.and_top.specs.declared.answers.Fault.TheVariants as faults
 use Rattle.and_top.specs.Answers.{Answers, Done, Stands, Writes, trace_name}
 use Rattle.and_top.specs.Headline.{IsReplay, Ran}
 use Rattle.and_top.specs.Inputs.{ScenarioAt, CaptureAt}
-use Rattle.and_top.specs.Outside.{Disk, Stays}
+use Rattle.and_top.specs.Outside.{Calls, Stays}
+use Rattle.and_top.proofs.Failing.{calls_three}
 use Rattle.and_planner.specs.Plans.{CanPlan}
 use Rattle.and_top.specs.Telling.{Stream}
 use Rattle.and_top.specs.Words.{Named}
@@ -69,25 +69,28 @@ texts_are scenario capture plan other h texts is sound run complete ordered slow
 -- ---- the answer
 
 stands_later : (name : List ℕ) (old mid new : Disk) (text : List ℕ) → Stays old mid → Stands name mid new text → Stands name old new text
-stands_later name old mid new text stays s = record { held = s.held; told = λ before told. s.told before (stays.contents name ∙ told) }
+stands_later name old mid new text stays s =
+    record { held = s.held; told = λ before told. s.told before (stays.contents name ∙ told); given = λ tells. s.given (stays.tells tells) }
 
 -- what was written after the reads
-written : (name : List ℕ) (old mid new : Disk) (before after : Stream) (trace report : List ℕ) (result : Result (Unit {0}) Fault) → Stays old mid
-    → Writes name mid new before after trace report result → Writes name old new before after trace report result
-written name old mid new before after trace report (Ok done) stays w = (stands_later name old mid new trace stays w.0, w.1)
-written name old mid new before after trace report (Err (faults.Write which.Trace)) stays w = (subst (λ n. Rose n new.write_faults) stays.write_faults w.0, w.1)
-written name old mid new before after trace report (Err (faults.Write which.Report)) stays w = (stands_later name old mid new trace stays w.0, w.1)
-written name old mid new before after trace report (Err fault) stays w = absurd w
+written : (name : List ℕ) (old mid new : Disk) (before after : Stream) (trace report : List ℕ) (result : Result (Unit {0}) Fault) → Stays old mid → Calls 2 old mid
+    → Writes 1 name mid new before after trace report result → Writes 3 name old new before after trace report result
+written name old mid new before after trace report (Ok done) stays two w = (calls_three old mid new stays two w.0, stands_later name old mid new trace stays w.1, w.2)
+written name old mid new before after trace report (Err (faults.Write which.Trace)) stays two w =
+    (record { call = calls_three old mid new stays two w.0.call; rose = w.0.rose }, w.1)
+written name old mid new before after trace report (Err (faults.Write which.Report)) stays two w =
+    (calls_three old mid new stays two w.0, stands_later name old mid new trace stays w.1, w.2)
+written name old mid new before after trace report (Err fault) stays two w = absurd w
 
 answer_done : (names : Named) (old new : Disk) (before after : Stream) (result : Result (Unit {0}) Fault) → Done names old new before after result → Answers names old new before after result
 answer_done names old new before after (Ok done) d = d
 answer_done names old new before after (Err fault) d = inr d
 
 pub answers : (names : Named) (old mid new : Disk) (before after : Stream) (scenario : Scenario) (capture : Capture) (texts : Texts) (name : List ℕ) (result : Result (Unit {0}) Fault)
-    → Stays old mid → ScenarioAt old names.scenario scenario → CaptureAt old names.capture capture → AreTexts scenario capture texts → name ≡ trace_name names
-    → Writes name mid new before after texts.trace.items texts.report.items result → Answers names old new before after result
-answers names old mid new before after scenario capture texts name result stays at_scenario at_capture are name_is w =
-    let can : CanPlan scenario capture = can_plan MOST_HOSTS at_scenario.bytes at_capture.bytes scenario capture at_scenario.form at_capture.form.reads in
+    → Stays old mid → Calls 2 old mid → ScenarioAt old names.scenario scenario → CaptureAt old names.capture capture → AreTexts scenario capture texts → name ≡ trace_name names
+    → Writes 1 name mid new before after texts.trace.items texts.report.items result → Answers names old new before after result
+answers names old mid new before after scenario capture texts name result stays two at_scenario at_capture are name_is w =
+    let can : CanPlan scenario capture = can_plan at_scenario.bytes at_capture.bytes scenario capture at_scenario.text at_scenario.built at_capture.reads in
     let ran : Ran names old = record {
       scenario = scenario;
       capture = capture;
@@ -98,10 +101,10 @@ answers names old mid new before after scenario capture texts name result stays 
       history = are.history;
       replays = are.replays;
     } in
-    let now : Writes name old new before after texts.trace.items texts.report.items result = written name old mid new before after texts.trace.items texts.report.items result stays w in
+    let now : Writes 3 name old new before after texts.trace.items texts.report.items result = written name old mid new before after texts.trace.items texts.report.items result stays two w in
     answer_done names old new before after result (
       ran,
-      subst (λ n. Writes n old new before after (trace are.history) (report (planned scenario capture) are.history) result) name_is
-          (subst (λ t. Writes name old new before after t (report (planned scenario capture) are.history) result) are.trace
-          (subst (λ r. Writes name old new before after texts.trace.items r result) are.report now)),
+      subst (λ n. Writes 3 n old new before after (trace are.history) (report (planned scenario capture) are.history) result) name_is
+          (subst (λ t. Writes 3 name old new before after t (report (planned scenario capture) are.history) result) are.trace
+          (subst (λ r. Writes 3 name old new before after texts.trace.items r result) are.report now)),
     )

@@ -3,5 +3,5 @@ pub mod Completing
 pub mod Failing
 pub mod PlansLemmas
 pub mod Puts
-pub mod FirstFormLemmas
+pub mod Refusing
 pub mod Headlines

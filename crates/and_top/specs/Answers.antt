@@ -1,13 +1,13 @@
 -- What the top call answers, and where.
 use Rattle.std.specs.Prelude.{◌≡◌, ◌≢◌, ◌≤◌, ◌⊎◌, ℕ, List, ◌++◌, codes, true, Some, Result, Ok, Err, string_bytes}
-use Rattle.and_outside.specs.Causes.{Rose}
 use Rattle.and_top.specs.declared.answers.Which.TheVariants as which
 use Rattle.and_top.specs.declared.answers.Fault.{Fault}
 use Rattle.and_top.specs.declared.answers.Fault.TheVariants as faults
 use Rattle.and_top.specs.declared.answers.Job.{Job}
 use Rattle.and_top.specs.Headline.{Ran, trace_in, report_in}
 use Rattle.and_top.specs.Inputs.{Refuses}
-use Rattle.and_top.specs.Outside.{Disk, Holds}
+use Rattle.and_outside.specs.Disk.{Disk}
+use Rattle.and_top.specs.Outside.{Calls, Holds, WriteFailed}
 use Rattle.and_top.specs.Telling.{Stream, Wrote, WrotePart}
 use Rattle.and_top.specs.Words.{Named}
 
@@ -23,6 +23,7 @@ trace_name names = names.out ++ codes ".trace"
 pub record Leaves (name : List ℕ) (old new : Disk) : Type 0 where
   pub others : (other : List ℕ) → other ≢ name → new.content other ≡ old.content other
   pub calm : old.calm ≡ true → new.calm ≡ true
+  pub tells : old.tells ≡ true → new.tells ≡ true
   pub write_faults : old.write_faults ≤ new.write_faults
   pub read_faults : old.read_faults ≤ new.read_faults
   pub taken : old.taken ≤ new.taken
@@ -31,22 +32,24 @@ pub record Leaves (name : List ℕ) (old new : Disk) : Type 0 where
 abbrev pub Untouched : Disk → Disk → Type 0
 Untouched old new = (name : List ℕ) → new.content name ≡ old.content name
 
--- the text is the content of the file of this name, where that is told; where it was told before, it is told now
+-- the text is the content of the file of this name, where that is told; it is told where it was told before, and by files that tell what they are given
 pub record Stands (name : List ℕ) (old new : Disk) (text : List ℕ) : Type 0 where
   pub held : Holds new name text
   pub told : (before : List ℕ) → old.content name ≡ Some before → new.content name ≡ Some text
+  pub given : old.tells ≡ true → new.content name ≡ Some text
 
--- The trace was written, and then the report was put. Where the write failed, faults of the files rose, nothing is known of the trace's file, and
--- nothing was put. Where the put failed, faults of the sink rose: the trace stands, and a prefix of the report
-abbrev pub Writes : List ℕ → Disk → Disk → Stream → Stream → List ℕ → List ℕ → Result (Unit {0}) Fault → Type 0
-Writes name old new before after trace report (Ok done) = Stands name old new trace × Wrote report before after
-Writes name old new before after trace report (Err (faults.Write which.Trace)) = Rose old.write_faults new.write_faults × (after ≡ before)
-Writes name old new before after trace report (Err (faults.Write which.Report)) = Stands name old new trace × WrotePart report before after
-Writes name old new before after trace report (Err _) = ⊥
+-- The trace was written, by the call of this number from 1 and the last, and then the report was put. Where the write failed, the count of failed writes rose
+-- in that call, nothing is known of the trace's file, and nothing was put. Where the put failed, faults of the sink rose: the trace stands, and a prefix
+-- of the report
+abbrev pub Writes : ℕ → List ℕ → Disk → Disk → Stream → Stream → List ℕ → List ℕ → Result (Unit {0}) Fault → Type 0
+Writes n name old new before after trace report (Ok done) = Calls n old new × Stands name old new trace × Wrote report before after
+Writes n name old new before after trace report (Err (faults.Write which.Trace)) = WriteFailed n old new × (after ≡ before)
+Writes n name old new before after trace report (Err (faults.Write which.Report)) = Calls n old new × Stands name old new trace × WrotePart report before after
+Writes n name old new before after trace report (Err _) = ⊥
 
 -- The answer of a replay between two states of the files and of the report's sink. Where it is no fault of a write, nothing was written or put
 abbrev pub Done : Named → Disk → Disk → Stream → Stream → Result (Unit {0}) Fault → Type 0
-Done names old new before after result = (ran : Ran names old) × Writes (trace_name names) old new before after (trace_in names old ran) (report_in names old ran) result
+Done names old new before after result = (ran : Ran names old) × Writes 3 (trace_name names) old new before after (trace_in names old ran) (report_in names old ran) result
 
 abbrev pub Answers : Named → Disk → Disk → Stream → Stream → Result (Unit {0}) Fault → Type 0
 Answers names old new before after (Ok done) = Done names old new before after (Ok done)

@@ -16,7 +16,7 @@ use Rattle.and_replay.specs.Slow.{AreSlow}
 use Rattle.and_report.specs.Report.{report}
 use Rattle.and_trace.specs.Spelling.{IsSpelled, trace}
 use Rattle.and_top.specs.Inputs.{ScenarioAt, CaptureAt}
-use Rattle.and_top.specs.Outside.{Disk}
+use Rattle.and_outside.specs.Disk.{Disk}
 use Rattle.and_top.specs.Words.{Named}
 
 -- The history, whose newest event is first, is the run of the plan to its end in the plain order. Each packet of the plan has exactly one

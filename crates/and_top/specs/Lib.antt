@@ -1,4 +1,3 @@
-pub mod FirstForm
 pub mod Outside
 pub mod Telling
 pub mod Words

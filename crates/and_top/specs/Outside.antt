@@ -1,24 +1,13 @@
--- Files and a sink, as the clauses of the top call see them.
-use Rattle.std.specs.Prelude.{◌≡◌, ◌≤◌, ◌<◌, ◌⊎◌, ℕ, List, Bool, true, length, Option, Some}
-use Rattle.and_outside.specs.Causes.{Rose, RoseBy}
-
--- what files mean at a moment
-pub record Disk : Type 0 where
-  pub read_faults : ℕ
-  pub write_faults : ℕ
-  pub taken : ℕ
-  pub calm : Bool
-  pub content : List ℕ → Option (List ℕ)
-
--- the files x, by the meanings of their type
-abbrev pub disk : {X : Type 0} → (X → ℕ) → (X → ℕ) → (X → ℕ) → (X → Bool) → (X → List ℕ → Option (List ℕ)) → X → Disk
-disk read_faults write_faults taken calm content x =
-    record { read_faults = read_faults x; write_faults = write_faults x; taken = taken x; calm = calm x; content = content x }
+-- What a call leaves of files, and how a read or a write of it can fail.
+use Rattle.std.specs.Prelude.{◌≡◌, ◌≤◌, ◌<◌, ◌⊎◌, ℕ, List, true, length, Option, Some}
+use Rattle.and_outside.specs.Causes.{Rose, RoseBy, raised}
+use Rattle.and_outside.specs.Disk.{Disk}
 
 -- no file was written: every content stays, as told or untold as it was
 pub record Stays (old new : Disk) : Type 0 where
   pub contents : (name : List ℕ) → new.content name ≡ old.content name
   pub calm : old.calm ≡ true → new.calm ≡ true
+  pub tells : old.tells ≡ true → new.tells ≡ true
   pub write_faults : new.write_faults ≡ old.write_faults
   pub read_faults : old.read_faults ≤ new.read_faults
   pub taken : old.taken ≤ new.taken
@@ -31,12 +20,26 @@ Holds d name bytes = (t : List ℕ) → d.content name ≡ Some t → bytes ≡ 
 abbrev pub IsQuiet : Disk → Disk → Type 0
 IsQuiet old new = (old.calm ≡ true) ⊎ (¬ Rose old.read_faults new.read_faults)
 
--- a read failed: it shows in the count, and calm files never fail to read what they tell
-pub record ReadFailed (old new : Disk) (name : List ℕ) : Type 0 where
-  pub rose : Rose old.read_faults new.read_faults
+-- so many reads and writes were made, of which the last began at counts not below the old ones
+pub record Calls (n : ℕ) (old new : Disk) : Type 0 where
+  pub number : new.calls ≡ raised n old.calls
+  pub read_faults : old.read_faults ≤ new.before.read_faults
+  pub write_faults : old.write_faults ≤ new.before.write_faults
+  pub taken : old.taken ≤ new.before.taken
+
+-- the read failed which was the call of this number from 1: it shows in the count that this call raised. Calm files never fail to read what they tell
+pub record ReadFailed (n : ℕ) (old new : Disk) (name : List ℕ) : Type 0 where
+  pub call : Calls n old new
+  pub rose : Rose new.before.read_faults new.read_faults
   pub never : (t : List ℕ) → old.content name ≡ Some t → old.calm ≡ true → ⊥
 
--- more than the limit was taken; a told content is longer than that, where no read can have failed
-pub record WasTooLong (limit : ℕ) (old new : Disk) (name : List ℕ) : Type 0 where
-  pub taken : RoseBy limit old.taken new.taken
-  pub longer : (t : List ℕ) → old.content name ≡ Some t → IsQuiet old new → limit < length t
+-- more than the limit was taken by the read which was the call of this number from 1; a told content is longer than that, where this read cannot have failed
+pub record WasTooLong (n limit : ℕ) (old new : Disk) (name : List ℕ) : Type 0 where
+  pub call : Calls n old new
+  pub taken : RoseBy limit new.before.taken new.taken
+  pub longer : (t : List ℕ) → old.content name ≡ Some t → (old.calm ≡ true) ⊎ (¬ Rose new.before.read_faults new.read_faults) → limit < length t
+
+-- the write failed which was the call of this number from 1
+pub record WriteFailed (n : ℕ) (old new : Disk) : Type 0 where
+  pub call : Calls n old new
+  pub rose : Rose new.before.write_faults new.write_faults

@@ -2,15 +2,22 @@
 use Rattle.std.specs.Prelude.{◌≡◌, ◌≤◌, ℕ, List, [], ◌∷◌, ◌++◌, length, codes, Some, Result, Ok, Err}
 use Rattle.and_capture.specs.declared.capture.Capture.{Capture}
 use Rattle.and_events.specs.declared.plan.Scenario.{Scenario}
-use Rattle.and_top.specs.declared.TheConstants.{MAX_SCENARIO_LEN, MAX_CAPTURE_LEN, MOST_HOSTS}
 use Rattle.and_top.specs.declared.answers.Which.{Which}
 use Rattle.and_top.specs.declared.answers.Which.TheVariants as which
 use Rattle.and_top.specs.declared.answers.Fault.{Fault}
 use Rattle.and_top.specs.declared.answers.Fault.TheVariants as faults
 use Rattle.and_top.specs.Answers.{Answers}
-use Rattle.and_top.specs.FirstForm.{IsFirstForm}
-use Rattle.and_top.specs.Inputs.{IsFirstCapture}
-use Rattle.and_top.specs.Outside.{Disk, IsQuiet}
+use Rattle.and_capture.specs.declared.fault.CaptureFault.{CaptureFault}
+use Rattle.and_capture.specs.declared.fault.CaptureFault.TheVariants as capture_faults
+use Rattle.and_capture.specs.Reading.{reading}
+use Rattle.and_outside.specs.Disk.{Disk}
+use Rattle.and_planner.specs.Scenarios.{IsBuiltScenario}
+use Rattle.and_script.specs.Answers.{IsText}
+use Rattle.and_script.specs.declared.fault.ScenarioFault.{ScenarioFault}
+use Rattle.and_script.specs.declared.fault.ScenarioFault.TheVariants as scenario_faults
+use Rattle.and_top.specs.Inputs.{max_scenario_len, max_capture_len, RefusedAs, CaptureRefusedAs}
+use Rattle.and_top.specs.Outside.{IsQuiet}
+use Rattle.std.specs.Fmt.{decimal}
 use Rattle.and_top.specs.Telling.{Stream, Tells}
 use Rattle.and_top.specs.Words.{Named}
 
@@ -39,10 +46,40 @@ file_name names which.Report = codes "output"
 abbrev pub usage_text : List ℕ
 usage_text = codes "usage: andromeda replay SCENARIO CAPTURE OUT" ++ 10 ∷ []
 
--- the line of each fault. Scenarios and captures have one fault so far
+-- the line of a refused scenario: the check that failed first, and the path of the value where it failed. The last is never answered
+abbrev pub scenario_line : ScenarioFault → List ℕ
+scenario_line scenario_faults.NotJson = codes "scenario: NotJson" ++ 10 ∷ []
+scenario_line (scenario_faults.Field path) = codes "scenario: Field " ++ (path ++ 10 ∷ [])
+scenario_line (scenario_faults.Unknown path) = codes "scenario: Unknown " ++ (path ++ 10 ∷ [])
+scenario_line (scenario_faults.Range path) = codes "scenario: Range " ++ (path ++ 10 ∷ [])
+scenario_line (scenario_faults.Limit path) = codes "scenario: Limit " ++ (path ++ 10 ∷ [])
+scenario_line scenario_faults.NotBuilt = codes "scenario: NotBuilt" ++ 10 ∷ []
+scenario_line scenario_faults.NoMemory = codes "no memory" ++ 10 ∷ []
+
+-- the line of a refused capture: the check that failed first, and, of a record, its place in decimal digits. The last is never answered
+abbrev pub capture_text : CaptureFault → List ℕ → List ℕ
+capture_text capture_faults.CutHeader place = codes "capture: CutHeader" ++ 10 ∷ []
+capture_text capture_faults.Magic place = codes "capture: Magic" ++ 10 ∷ []
+capture_text capture_faults.Major place = codes "capture: Major" ++ 10 ∷ []
+capture_text capture_faults.LinkType place = codes "capture: LinkType" ++ 10 ∷ []
+capture_text (capture_faults.CutRecord at) place = codes "capture: CutRecord " ++ (place ++ 10 ∷ [])
+capture_text (capture_faults.LongRecord at) place = codes "capture: LongRecord " ++ (place ++ 10 ∷ [])
+capture_text capture_faults.TooMany place = codes "capture: TooMany" ++ 10 ∷ []
+capture_text capture_faults.NoMemory place = codes "no memory" ++ 10 ∷ []
+
+-- how many bytes stand before the record that was refused
+abbrev pub place_in : CaptureFault → ℕ
+place_in (capture_faults.CutRecord at) = at
+place_in (capture_faults.LongRecord at) = at
+place_in _ = 0
+
+abbrev pub capture_line : CaptureFault → List ℕ
+capture_line fault = capture_text fault (decimal (place_in fault))
+
+-- the line of each fault
 abbrev pub fault_line : Named → Fault → List ℕ
-fault_line names (faults.Scenario fault) = codes "scenario: NotBuilt" ++ 10 ∷ []
-fault_line names (faults.Capture fault) = codes "capture: NotBuilt" ++ 10 ∷ []
+fault_line names (faults.Scenario fault) = scenario_line fault
+fault_line names (faults.Capture fault) = capture_line fault
 fault_line names (faults.Read file) = codes "read failed: " ++ (file_name names file ++ 10 ∷ [])
 fault_line names (faults.Write file) = codes "write failed: " ++ (file_name names file ++ 10 ∷ [])
 fault_line names (faults.TooLong file) = codes "too long: " ++ (file_name names file ++ 10 ∷ [])
@@ -60,18 +97,54 @@ pub record Replayed (names : Named) (old new : Disk) (before after err_before er
   pub status_is : status ≡ status_of answer
   pub says : Says names answer err_before err_after
 
--- Both files are told, within their limits and accepted, and no read can have failed.
-pub record CanComplete (names : Named) (old new : Disk) : Type 0 where
+-- The scenario is told, within its limit, accepted, and such as the system can run
+pub record TellsScenario (names : Named) (old : Disk) : Type 0 where
   pub text : List ℕ
-  pub text_told : old.content names.scenario ≡ Some text
-  pub text_within : length text ≤ MAX_SCENARIO_LEN
+  pub told : old.content names.scenario ≡ Some text
+  pub within : length text ≤ max_scenario_len
   pub scenario : Scenario
-  pub is_scenario : IsFirstForm MOST_HOSTS text scenario
+  pub is_text : IsText text scenario
+  pub built : IsBuiltScenario scenario
+
+-- The capture is told, within its limit, and accepted
+pub record TellsCapture (names : Named) (old : Disk) : Type 0 where
   pub file : List ℕ
-  pub file_told : old.content names.capture ≡ Some file
-  pub file_within : length file ≤ MAX_CAPTURE_LEN
+  pub told : old.content names.capture ≡ Some file
+  pub within : length file ≤ max_capture_len
   pub capture : Capture
-  pub is_capture : IsFirstCapture file capture
+  pub reads : reading file ≡ Ok capture
+
+-- The scenario is told, within its limit, and refused
+pub record TellsNoScenario (names : Named) (old : Disk) : Type 0 where
+  pub text : List ℕ
+  pub told : old.content names.scenario ≡ Some text
+  pub within : length text ≤ max_scenario_len
+  pub fault : ScenarioFault
+  pub refused : RefusedAs fault text
+
+-- The capture is told, within its limit, and refused
+pub record TellsNoCapture (names : Named) (old : Disk) : Type 0 where
+  pub file : List ℕ
+  pub told : old.content names.capture ≡ Some file
+  pub within : length file ≤ max_capture_len
+  pub fault : CaptureFault
+  pub refused : CaptureRefusedAs fault file
+
+-- Both files are told, within their limits and accepted, the system can run the scenario, and no read can have failed.
+pub record CanComplete (names : Named) (old new : Disk) : Type 0 where
+  pub scenario : TellsScenario names old
+  pub capture : TellsCapture names old
+  pub quiet : IsQuiet old new
+
+-- The scenario is refused, and no read can have failed
+pub record MustRefuseScenario (names : Named) (old new : Disk) : Type 0 where
+  pub scenario : TellsNoScenario names old
+  pub quiet : IsQuiet old new
+
+-- The scenario is accepted and the capture is refused, and no read can have failed
+pub record MustRefuseCapture (names : Named) (old new : Disk) : Type 0 where
+  pub scenario : TellsScenario names old
+  pub capture : TellsNoCapture names old
   pub quiet : IsQuiet old new
 
 -- want of memory, or a write failed
@@ -80,3 +153,15 @@ IsLate faults.NoMemory = Unit {0}
 IsLate (faults.Write which.Trace) = Unit {0}
 IsLate (faults.Write which.Report) = Unit {0}
 IsLate _ = ⊥
+
+-- the scenario was refused, or memory was wanting; nothing else
+abbrev pub RefusesScenario : Result (Unit {0}) Fault → Type 0
+RefusesScenario (Err (faults.Scenario fault)) = Unit {0}
+RefusesScenario (Err faults.NoMemory) = Unit {0}
+RefusesScenario _ = ⊥
+
+-- the capture was refused, or memory was wanting; nothing else
+abbrev pub RefusesCapture : Result (Unit {0}) Fault → Type 0
+RefusesCapture (Err (faults.Capture fault)) = Unit {0}
+RefusesCapture (Err faults.NoMemory) = Unit {0}
+RefusesCapture _ = ⊥

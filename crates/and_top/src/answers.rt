@@ -2,15 +2,7 @@
 
 use and_capture::CaptureFault;
 use and_replay::Turns;
-
-/// Why bytes were not read as a scenario.
-#[derive(Debug, Clone, Copy, PartialEq, Eq)]
-pub enum ScenarioFault {
-    /// They are no scenario of the kind that the program takes so far.
-    NotBuilt,
-    /// Memory ran out.
-    NoMemory,
-}
+use and_script::ScenarioFault;
 
 /// A file of a job, or its report.
 #[derive(Debug, Clone, Copy, PartialEq, Eq)]
@@ -30,11 +22,11 @@ pub enum Which {
 }
 
 /// Why a job was not done: the first failure in the order of the work.
-#[derive(Debug, Clone, Copy, PartialEq, Eq)]
+#[derive(Drop)]
 pub enum Fault {
-    /// The scenario was refused.
+    /// The scenario was refused, or is one that the system cannot run yet. Want of memory is never answered so.
     Scenario(ScenarioFault),
-    /// The capture was refused.
+    /// The capture was refused. Want of memory is never answered so.
     Capture(CaptureFault),
     /// A file could not be read.
     Read(Which),

@@ -1,15 +1,16 @@
 //! Reading the two files of a job.
 ghost use Rattle.std.specs.Prelude.{◌≡◌, IfOk, IfErr};
-ghost use Rattle.and_top.specs.Outside.{disk, Stays};
-ghost use Rattle.and_top.specs.Inputs.{fault_of_read, ScenarioAt, CaptureAt, ScenarioFails, CaptureFails};
+ghost use Rattle.and_script.specs.Answers.{IsText};
+ghost use Rattle.and_planner.specs.Scenarios.{IsBuiltScenario};
+ghost use Rattle.and_top.specs.Outside.{Calls, Stays};
+ghost use Rattle.and_top.specs.Inputs.{fault_of_read, fault_of_scenario, fault_of_capture, RefusedOr, ScenarioAt, CaptureAt, ScenarioFails, CaptureFails};
 
-use crate::answers::{Fault, ScenarioFault, Which};
-use crate::captures::read_first_capture;
-use crate::first_form::read_first_form;
-use crate::{MAX_CAPTURE_LEN, MAX_SCENARIO_LEN, MOST_HOSTS};
-use and_capture::{Capture, CaptureFault};
+use crate::answers::{Fault, Which};
+use crate::{MAX_CAPTURE_LEN, MAX_SCENARIO_LEN};
+use and_capture::{Capture, CaptureFault, read_capture};
 use and_events::Scenario;
 use and_outside::{Files, ReadAnswer};
+use and_script::{ScenarioFault, is_built, read_scenario};
 use std::alloc::Global;
 
 /// The fault of a read that did not succeed.
@@ -23,24 +24,58 @@ fn read_fault(which: Which, answer: ReadAnswer) -> Fault
     }
 }
 
+/// The fault of a refused scenario. Want of memory stays want of memory.
+fn scenario_fault(fault: ScenarioFault) -> Fault
+    ensures { result ≡ fault_of_scenario fault }
+{
+    match fault {
+        ScenarioFault::NoMemory => Fault::NoMemory,
+        fault => Fault::Scenario(fault),
+    }
+}
+
+/// The fault of a refused capture. Want of memory stays want of memory.
+fn capture_fault(fault: CaptureFault) -> Fault
+    ensures { result ≡ fault_of_capture fault }
+{
+    match fault {
+        CaptureFault::NoMemory => Fault::NoMemory,
+        fault => Fault::Capture(fault),
+    }
+}
+
+/// The scenario of the bytes, where the system can run it.
+fn built_scenario(alloc: Global, bytes: &[u8]) -> Result<Scenario, ScenarioFault>
+    ensures text { IfOk result (λ s. IsText bytes.now s) }
+    ensures built { IfOk result (λ s. IsBuiltScenario s) }
+    ensures refused { IfErr result (λ e. RefusedOr e bytes.now) }
+{
+    let scenario = read_scenario(alloc, bytes)?;
+    if is_built(&scenario) {
+        Ok(scenario)
+    } else {
+        Err(ScenarioFault::NotBuilt)
+    }
+}
+
 /// The scenario of the file of this name.
 pub(crate) fn scenario_in<F: Files>(
     alloc: Global,
     name: &str,
     files: &mut F,
 ) -> Result<Scenario, Fault>
-    ensures stays { Stays (disk F.read_faults F.write_faults F.taken F.calm F.content files.old) (disk F.read_faults F.write_faults F.taken F.calm F.content files.new) }
-    ensures found { IfOk result (λ s. ScenarioAt (disk F.read_faults F.write_faults F.taken F.calm F.content files.old) name.now s) }
-    ensures refused { IfErr result (λ e. ScenarioFails (disk F.read_faults F.write_faults F.taken F.calm F.content files.old) (disk F.read_faults F.write_faults F.taken F.calm F.content files.new) name.now e) }
+    ensures stays { Stays (F.disk files.old) (F.disk files.new) }
+    ensures call { Calls 1 (F.disk files.old) (F.disk files.new) }
+    ensures found { IfOk result (λ s. ScenarioAt (F.disk files.old) name.now s) }
+    ensures refused { IfErr result (λ e. ScenarioFails 1 (F.disk files.old) (F.disk files.new) name.now e) }
 {
     let bytes = match files.read(alloc, name, MAX_SCENARIO_LEN) {
         Ok(bytes) => bytes,
         Err(answer) => return Err(read_fault(Which::Scenario, answer)),
     };
-    match read_first_form(alloc, MOST_HOSTS, &bytes) {
+    match built_scenario(alloc, &bytes) {
         Ok(scenario) => Ok(scenario),
-        Err(ScenarioFault::NotBuilt) => Err(Fault::Scenario(ScenarioFault::NotBuilt)),
-        Err(ScenarioFault::NoMemory) => Err(Fault::NoMemory),
+        Err(fault) => Err(scenario_fault(fault)),
     }
 }
 
@@ -50,17 +85,17 @@ pub(crate) fn capture_in<F: Files>(
     name: &str,
     files: &mut F,
 ) -> Result<Capture, Fault>
-    ensures stays { Stays (disk F.read_faults F.write_faults F.taken F.calm F.content files.old) (disk F.read_faults F.write_faults F.taken F.calm F.content files.new) }
-    ensures found { IfOk result (λ c. CaptureAt (disk F.read_faults F.write_faults F.taken F.calm F.content files.old) name.now c) }
-    ensures refused { IfErr result (λ e. CaptureFails (disk F.read_faults F.write_faults F.taken F.calm F.content files.old) (disk F.read_faults F.write_faults F.taken F.calm F.content files.new) name.now e) }
+    ensures stays { Stays (F.disk files.old) (F.disk files.new) }
+    ensures call { Calls 1 (F.disk files.old) (F.disk files.new) }
+    ensures found { IfOk result (λ c. CaptureAt (F.disk files.old) name.now c) }
+    ensures refused { IfErr result (λ e. CaptureFails 1 (F.disk files.old) (F.disk files.new) name.now e) }
 {
     let bytes = match files.read(alloc, name, MAX_CAPTURE_LEN) {
         Ok(bytes) => bytes,
         Err(answer) => return Err(read_fault(Which::Capture, answer)),
     };
-    match read_first_capture(alloc, &bytes) {
+    match read_capture(alloc, &bytes) {
         Ok(capture) => Ok(capture),
-        Err(CaptureFault::NoMemory) => Err(Fault::NoMemory),
-        Err(_) => Err(Fault::Capture(CaptureFault::NotBuilt)),
+        Err(fault) => Err(capture_fault(fault)),
     }
 }

@@ -7,19 +7,16 @@
 #![tactic(auto)]
 
 mod answers;
-mod captures;
 mod commands;
-mod first_form;
 mod inputs;
 mod line;
 mod replaying;
-#[cfg(test)]
-mod tests;
 mod texts;
 mod words;
 
 pub use and_replay::Turns;
-pub use answers::{Fault, Job, ScenarioFault, Which};
+pub use and_script::ScenarioFault;
+pub use answers::{Fault, Job, Which};
 pub use commands::andromeda;
 pub use replaying::replay;
 
@@ -28,6 +25,3 @@ pub const MAX_SCENARIO_LEN: u64 = 16_777_216;
 
 /// The most bytes of a capture's file.
 pub const MAX_CAPTURE_LEN: u64 = 33_554_432;
-
-/// The most hosts of a scenario, so far.
-const MOST_HOSTS: u32 = 64;

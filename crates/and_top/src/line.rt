@@ -10,28 +10,37 @@ use and_outside::Sink;
 #[derive(Debug, Clone, Copy)]
 pub struct Line<'a> {
     pub head: &'a str,
-    pub name: &'a str,
+    pub name: &'a [u8],
     pub tail: &'a str,
 }
 
 /// Puts one piece, and says whether that was done.
-fn put<E: Sink>(err: &mut E, text: &str) -> bool
+fn put<E: Sink>(err: &mut E, text: &[u8]) -> bool
     ensures done { OnTrue result (Wrote text.now (stream E.faults E.written err.old) (stream E.faults E.written err.new)) }
     ensures part { OnFalse result (WrotePart text.now (stream E.faults E.written err.old) (stream E.faults E.written err.new)) }
     ensures counts { E.faults err.old ≤ E.faults err.new }
 {
-    err.put(text.as_bytes()).is_ok()
+    err.put(text).is_ok()
+}
+
+/// Puts a text, and says whether that was done.
+fn put_text<E: Sink>(err: &mut E, text: &str) -> bool
+    ensures done { OnTrue result (Wrote text.now (stream E.faults E.written err.old) (stream E.faults E.written err.new)) }
+    ensures part { OnFalse result (WrotePart text.now (stream E.faults E.written err.old) (stream E.faults E.written err.new)) }
+    ensures counts { E.faults err.old ≤ E.faults err.new }
+{
+    put(err, text.as_bytes())
 }
 
 /// Puts the text. Where a piece of it fails, a prefix of the text was put.
 pub fn tell<E: Sink>(err: &mut E, line: &Line<'_>)
     ensures { Tells (text_of line.now) (stream E.faults E.written err.old) (stream E.faults E.written err.new) }
 {
-    if !put(err, line.head) {
+    if !put_text(err, line.head) {
         return;
     }
     if !put(err, line.name) {
         return;
     }
-    put(err, line.tail);
+    put_text(err, line.tail);
 }

@@ -1,9 +1,9 @@
 //! The replay of a scenario and the frames of a capture.
-ghost use Rattle.std.specs.Prelude.{◌≡◌, IfOk, IfErr, string_bytes};
-ghost use Rattle.and_top.specs.Outside.{disk, Stays};
+ghost use Rattle.std.specs.Prelude.{◌≡◌, IfOk, IfErr, OnOk, string_bytes};
+ghost use Rattle.and_top.specs.Outside.{Calls, Stays};
 ghost use Rattle.and_top.specs.Inputs.{ScenarioAt, CaptureAt, Refuses};
 ghost use Rattle.and_top.specs.Telling.{stream};
-ghost use Rattle.and_top.specs.Statuses.{CanComplete, IsLate};
+ghost use Rattle.and_top.specs.Statuses.{CanComplete, IsLate, MustRefuseScenario, MustRefuseCapture, RefusesScenario, RefusesCapture};
 ghost use Rattle.and_top.specs.Answers.{Answers, Leaves, Writes, names_in, trace_name};
 
 use crate::answers::{Fault, Job, Which};
@@ -20,10 +20,11 @@ fn read_both<F: Files>(
     job: &Job,
     files: &mut F,
 ) -> Result<(Scenario, Capture), Fault>
-    ensures stays { Stays (disk F.read_faults F.write_faults F.taken F.calm F.content files.old) (disk F.read_faults F.write_faults F.taken F.calm F.content files.new) }
-    ensures scenario { IfOk result (λ r. ScenarioAt (disk F.read_faults F.write_faults F.taken F.calm F.content files.old) (names_in job.now).scenario r.0) }
-    ensures capture { IfOk result (λ r. CaptureAt (disk F.read_faults F.write_faults F.taken F.calm F.content files.old) (names_in job.now).capture r.1) }
-    ensures refused { IfErr result (λ e. Refuses (names_in job.now) (disk F.read_faults F.write_faults F.taken F.calm F.content files.old) (disk F.read_faults F.write_faults F.taken F.calm F.content files.new) e) }
+    ensures stays { Stays (F.disk files.old) (F.disk files.new) }
+    ensures calls { OnOk result (Calls 2 (F.disk files.old) (F.disk files.new)) }
+    ensures scenario { IfOk result (λ r. ScenarioAt (F.disk files.old) (names_in job.now).scenario r.0) }
+    ensures capture { IfOk result (λ r. CaptureAt (F.disk files.old) (names_in job.now).capture r.1) }
+    ensures refused { IfErr result (λ e. Refuses (names_in job.now) (F.disk files.old) (F.disk files.new) e) }
 {
     let scenario = scenario_in(alloc, job.scenario.as_str(), files)?;
     let capture = capture_in(alloc, job.capture.as_str(), files)?;
@@ -49,9 +50,8 @@ fn write_texts<F: Files, O: Sink>(
     files: &mut F,
     out: &mut O,
 ) -> Result<(), Fault>
-    ensures leaves { Leaves name.now (disk F.read_faults F.write_faults F.taken F.calm F.content files.old) (disk F.read_faults F.write_faults F.taken F.calm F.content files.new) }
-    ensures read_faults { F.read_faults files.new ≡ F.read_faults files.old }
-    ensures writes { Writes name.now (disk F.read_faults F.write_faults F.taken F.calm F.content files.old) (disk F.read_faults F.write_faults F.taken F.calm F.content files.new)
+    ensures leaves { Leaves name.now (F.disk files.old) (F.disk files.new) }
+    ensures writes { Writes 1 name.now (F.disk files.old) (F.disk files.new)
         (stream O.faults O.written out.old) (stream O.faults O.written out.new) texts.now.trace.items texts.now.report.items result }
 {
     if files.write(name, &texts.trace).is_err() {
@@ -70,8 +70,8 @@ fn work<F: Files, O: Sink>(
     files: &mut F,
     out: &mut O,
 ) -> Result<(), Fault>
-    ensures leaves { Leaves (trace_name (names_in job.now)) (disk F.read_faults F.write_faults F.taken F.calm F.content files.old) (disk F.read_faults F.write_faults F.taken F.calm F.content files.new) }
-    ensures answer { Answers (names_in job.now) (disk F.read_faults F.write_faults F.taken F.calm F.content files.old) (disk F.read_faults F.write_faults F.taken F.calm F.content files.new)
+    ensures leaves { Leaves (trace_name (names_in job.now)) (F.disk files.old) (F.disk files.new) }
+    ensures answer { Answers (names_in job.now) (F.disk files.old) (F.disk files.new)
         (stream O.faults O.written out.old) (stream O.faults O.written out.new) result }
 {
     let (scenario, capture) = read_both(alloc, job, files)?;
@@ -89,19 +89,21 @@ fn work<F: Files, O: Sink>(
 /// than what was installed when it was taken: that is what [`Ok`] and the faults of the writes say, of the contents of files and of
 /// the sink where those are told.
 ///
-/// Where both files are told, within their limits and accepted, and no read can have failed, it
-/// answers `Ok`, or that memory ran out or that a write failed.
+/// Where both files are told, within their limits and accepted, the system can run the scenario, and no read can have failed, it
+/// answers `Ok`, or that memory ran out or that a write failed. Where the scenario is refused it answers that, by the first check
+/// that fails, or that memory ran out; and so, after it, the capture.
 pub fn replay<F: Files, O: Sink>(
     alloc: Global,
     job: &Job,
     files: &mut F,
     out: &mut O,
 ) -> Result<(), Fault>
-    ensures leaves { Leaves (trace_name (names_in job.now)) (disk F.read_faults F.write_faults F.taken F.calm F.content files.old) (disk F.read_faults F.write_faults F.taken F.calm F.content files.new) }
-    ensures answer { Answers (names_in job.now) (disk F.read_faults F.write_faults F.taken F.calm F.content files.old) (disk F.read_faults F.write_faults F.taken F.calm F.content files.new)
+    ensures leaves { Leaves (trace_name (names_in job.now)) (F.disk files.old) (F.disk files.new) }
+    ensures answer { Answers (names_in job.now) (F.disk files.old) (F.disk files.new)
         (stream O.faults O.written out.old) (stream O.faults O.written out.new) result }
-    ensures complete { CanComplete (names_in job.now) (disk F.read_faults F.write_faults F.taken F.calm F.content files.old) (disk F.read_faults F.write_faults F.taken F.calm F.content files.new)
-        → IfErr result IsLate }
+    ensures complete { CanComplete (names_in job.now) (F.disk files.old) (F.disk files.new) → IfErr result IsLate }
+    ensures scenario { MustRefuseScenario (names_in job.now) (F.disk files.old) (F.disk files.new) → RefusesScenario result }
+    ensures capture { MustRefuseCapture (names_in job.now) (F.disk files.old) (F.disk files.new) → RefusesCapture result }
 {
     work(alloc, job, files, out)
 }

@@ -4,15 +4,12 @@
 //! It promises nothing of that number, which the stored run shows. It stands on `and_script`, `and_planner` and `and_replay`.
 #![tactic(auto)]
 
-ghost use Rattle.std.specs.Prelude.{◌≡◌, ◌≤◌, true, length, IfOk};
-ghost use Rattle.std.specs.List.{list_all};
-ghost use Rattle.and_events.specs.Sound.{plain_settings};
-ghost use Rattle.and_planner.specs.FirstItems.{is_first_item};
+ghost use Rattle.std.specs.Prelude.{◌≤◌, length, IfOk};
 ghost use Rattle.and_planner.specs.Plans.{CanPlan};
 
 use and_capture::{Bytes, Capture, Frames, Taken};
-use and_events::{Item, Scenario, Settings};
-use and_planner::{is_first_item, plan};
+use and_events::Scenario;
+use and_planner::{is_built, plan};
 use and_policy::NoMemory;
 use and_replay::{Turns, replay_run};
 use and_script::read_scenario;
@@ -48,31 +45,6 @@ enum Fault {
     NoMemory,
 }
 
-/// Whether the settings are those of a scenario that gives no others than the number of its hosts, with one gateway.
-fn is_plain(settings: &Settings) -> bool
-    ensures { result ≡ true → settings.now ≡ plain_settings settings.now.hosts }
-{
-    let plain = Settings {
-        hosts: settings.hosts,
-        gateways: 1,
-        workers: 2,
-        hop_limit: 16,
-        out_queue: 256,
-        wire_queue: 256,
-        seal_queue: 256,
-        threshold: 20_000,
-        life: 3,
-    };
-    *settings == plain
-}
-
-/// Whether all items are of the kinds that the program takes so far.
-fn are_first(items: &[Item]) -> bool
-    ensures { result ≡ list_all is_first_item items.now }
-{
-    items.iter().all(|item| is_first_item(item))
-}
-
 /// The frame, as it was captured.
 fn taken(alloc: Global) -> Result<Taken, NoMemory> {
     let frame = Bytes::make(alloc, &FRAME).map_err(|_| NoMemory)?;
@@ -100,13 +72,14 @@ fn copies(alloc: Global, count: u32) -> Result<Capture, NoMemory>
 }
 
 /// The scenario, which can be planned.
+#[tactic(auto, using(crate::proofs::Plannable::can_plan))]
 fn scenario(alloc: Global) -> Result<Scenario, Fault>
     ensures { IfOk result (λ s. (c : Capture) → length c.frames ≤ 100000 → CanPlan s c) }
 {
     let Ok(scenario) = read_scenario(alloc, SCENARIO.as_bytes()) else {
         return Err(Fault::Scenario);
     };
-    if is_plain(&scenario.settings) && are_first(scenario.items.as_slice()) {
+    if is_built(&scenario) {
         Ok(scenario)
     } else {
         Err(Fault::Scenario)

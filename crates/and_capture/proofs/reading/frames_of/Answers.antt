@@ -1,5 +1,5 @@
 use Rattle.std.proofs.Common.{ℕ, ◌+◌, List, length, drop, ap, ◌∙◌, arith}
-use Rattle.and_capture.specs.declared.TheConstants.{RECORD_LEN}
+use Rattle.and_capture.specs.Spelling.{record_len}
 use Rattle.std.proofs.lemmas.Result.{err_from_is_err_and}
 use Rattle.and_capture.proofs.Loop.{Keeps_none, Keeps_more, ends, is_full, is_done}
 use Rattle.and_capture.proofs.reading.frames_of.Goals as goal
@@ -19,7 +19,7 @@ returns-in_err-frame g c =
 pub loop-rest-preserved : goal.loop-rest-preserved
 loop-rest-preserved g c =
     Keeps_more g.O.ByteOrder.number_of c.args.bytes.now c.loop-rest.rest.now c.split_at-in-loop-rest.result.1.now c.loop-rest.frames.items c.push.new.self.items c.in_ok-frame.frame c.loop-rest.invariant
-    (grind arith) (omega arith) c.in_ok-frame.ensures.inside c.in_ok-frame.ensures.gives (c.split_at-in-loop-rest.ensures.back ∙ ap (λ (f : List ℕ). drop (RECORD_LEN + length f) c.loop-rest.rest.now) c.as_bytes.ensures) (grind arith)
+    (grind arith) (omega arith) c.in_ok-frame.ensures.inside c.in_ok-frame.ensures.gives (c.split_at-in-loop-rest.ensures.back ∙ ap (λ (f : List ℕ). drop (record_len + length f) c.loop-rest.rest.now) c.as_bytes.ensures) (grind arith)
 
 pub returns : goal.returns
 returns g c =

@@ -1,5 +1,5 @@
 use Rattle.std.proofs.Common.{arith}
-use Rattle.and_capture.proofs.Files.{is_found, is_only, is_not_built}
+use Rattle.and_capture.proofs.Files.{is_found, is_only}
 use Rattle.and_capture.proofs.reading.read_capture.Goals as goal
 
 pub returns-clause-found : goal.returns-clause-found
@@ -7,6 +7,3 @@ returns-clause-found c = is_found c.args.bytes.now c.any_capture_of.result (λ i
 
 pub returns-clause-only : goal.returns-clause-only
 returns-clause-only c = is_only c.args.bytes.now c.any_capture_of.result c.any_capture_of.ensures
-
-pub returns-clause-never_not_built : goal.returns-clause-never_not_built
-returns-clause-never_not_built c = is_not_built c.args.bytes.now c.any_capture_of.result c.any_capture_of.ensures

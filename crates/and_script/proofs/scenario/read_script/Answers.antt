@@ -7,8 +7,8 @@ use Rattle.and_script.specs.Grammar as grammar
 use Rattle.and_script.proofs.Whole.{told, told_item, scripted-long, scripted-short, with_settings}
 use Rattle.and_script.proofs.scenario.read_script.Goals as goal
 
-pub returns-then-script-gt65536-clause-refused : goal.returns-then-script-gt65536-clause-refused
-returns-then-script-gt65536-clause-refused c =
+pub returns-then-script-gt-MAX_ITEMS-clause-refused : goal.returns-then-script-gt-MAX_ITEMS-clause-refused
+returns-then-script-gt-MAX_ITEMS-clause-refused c =
     let long : nat_lt 65536 (length c.args.script.now) ≡ true = search rules in
     told c.at_top.result Limit (grammar.Top (grammar.Of (codes "script"))) (grammar.scripted c.args.settings (items_view c.args.script.now))
     c.at_top.ensures (scripted-long c.args.settings c.args.script.now long)

@@ -1,7 +1,7 @@
 use Rattle.std.proofs.Common.{◌≡◌, Option, Some, None, Ok, Err, refl, sym, ◌∙◌}
 use Rattle.and_top.specs.Names.{named}
 use Rattle.and_top.specs.Words.{Named}
-use Rattle.and_top.proofs.Completing.{no_usage, late_status}
+use Rattle.and_top.proofs.Completing.{no_usage, late_status, scenario_status, capture_status}
 use Rattle.and_top.proofs.commands.andromeda.Goals as goal
 
 same_names : (a b : Named) (o : Option Named) → Some a ≡ o → o ≡ Some b → a ≡ b
@@ -41,5 +41,15 @@ returns-in-Err-clause-replayed g c names told =
       answer = Err c.in-Err.fault;
       answers = c.in-Err.ensures.answer;
       status_is = c.status_of.ensures;
-      says = rw (← c.line_of.ensures) c.tell-in-Err.ensures;
+      says = c.tell_fault.ensures;
     })
+
+pub returns-in-Err-clause-scenario : goal.returns-in-Err-clause-scenario
+returns-in-Err-clause-scenario g c names told =
+    let same : named c.in-Some.names ≡ names = same_names _ _ _ c.in-Some.ensures told in
+    rw (← same, c.status_of.ensures) (λ must. scenario_status c.in-Err.fault (c.in-Err.ensures.scenario must))
+
+pub returns-in-Err-clause-capture : goal.returns-in-Err-clause-capture
+returns-in-Err-clause-capture g c names told =
+    let same : named c.in-Some.names ≡ names = same_names _ _ _ c.in-Some.ensures told in
+    rw (← same, c.status_of.ensures) (λ must. capture_status c.in-Err.fault (c.in-Err.ensures.capture must))

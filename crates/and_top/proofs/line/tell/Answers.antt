@@ -2,20 +2,20 @@ use Rattle.std.proofs.Common.{◌++◌}
 use Rattle.and_top.proofs.Puts.{tells-after, tells-first, tells-last}
 use Rattle.and_top.proofs.line.tell.Goals as goal
 
+pub returns-then-not-put_text : goal.returns-then-not-put_text
+returns-then-not-put_text g c =
+    let line = c.args.line.now in
+    tells-first line.head.now (line.name.now ++ line.tail.now) _ _ c.if-not-put_text.ensures.part
+
 pub returns-then-not-put : goal.returns-then-not-put
 returns-then-not-put g c =
     let line = c.args.line.now in
-    tells-first line.head.now (line.name.now ++ line.tail.now) _ _ c.if-not-put.ensures.part
-
-pub returns-then-not-put-2 : goal.returns-then-not-put-2
-returns-then-not-put-2 g c =
-    let line = c.args.line.now in
-    tells-after line.head.now (line.name.now ++ line.tail.now) _ _ _ c.if-not-put.ensures.done c.put.ensures.counts
-    (tells-first line.name.now line.tail.now _ _ c.if-not-put-2.ensures.part)
+    tells-after line.head.now (line.name.now ++ line.tail.now) _ _ _ c.if-not-put_text.ensures.done c.put_text.ensures.counts
+    (tells-first line.name.now line.tail.now _ _ c.if-not-put.ensures.part)
 
 pub returns : goal.returns
 returns g c =
     let line = c.args.line.now in
-    tells-after line.head.now (line.name.now ++ line.tail.now) _ _ _ c.if-not-put.ensures.done c.put.ensures.counts
-    (tells-after line.name.now line.tail.now _ _ _ c.if-not-put-2.ensures.done c.put-2.ensures.counts
-    (tells-last c.put-3.result line.tail.now _ _ c.put-3.ensures.done c.put-3.ensures.part))
+    tells-after line.head.now (line.name.now ++ line.tail.now) _ _ _ c.if-not-put_text.ensures.done c.put_text.ensures.counts
+    (tells-after line.name.now line.tail.now _ _ _ c.if-not-put.ensures.done c.put.ensures.counts
+    (tells-last c.put_text-2.result line.tail.now _ _ c.put_text-2.ensures.done c.put_text-2.ensures.part))

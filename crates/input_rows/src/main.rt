@@ -1,0 +1,104 @@
+//! A program to check the reading of scenarios and captures by: each line of its input is the word `scenario` and a JSON text, or the word
+//! `capture` and the bytes of a file in hexadecimal digits, and it writes a line for each: `accepted` and what was read of a capture, or the
+//! fault's name and its path or place.
+//!
+//! Its lines are written by `scripts/input_rows.py`. It promises nothing: the stored run shows what is read.
+#![tactic(auto)]
+
+use and_capture::{Capture, CaptureFault, Taken, read_capture};
+use and_script::{ScenarioFault, read_scenario};
+use std::alloc::Global;
+use std::io;
+
+/// The number of a hexadecimal digit; 0 of any other byte.
+fn digit(byte: u8) -> u8
+    ensures { result ≤ 15 }
+{
+    match byte {
+        b'0'..=b'9' => byte - b'0',
+        b'a'..=b'f' => byte - b'a' + 10,
+        _ => 0,
+    }
+}
+
+/// The bytes that the digits spell.
+fn bytes_of(alloc: Global, digits: &[u8]) -> io::Result<Vec<u8>> {
+    let mut bytes = Vec::new(alloc);
+    for pair in digits.chunks_exact(2) {
+        if let [high, low] = pair {
+            bytes.push(digit(*high) * 16 + digit(*low))?;
+        }
+    }
+    Ok(bytes)
+}
+
+/// A name, and a path where there is one.
+fn tell_path(rt: &HostRuntime, name: &str, path: &[u8]) -> io::Result<()> {
+    let path = str::from_utf8(path).unwrap_or("");
+    println!(rt; "{name}{path}")
+}
+
+fn tell_scenario(rt: &HostRuntime, text: &[u8]) -> io::Result<()> {
+    match read_scenario(rt.alloc(), text) {
+        Ok(_) => println!(rt; "accepted"),
+        Err(ScenarioFault::NotJson) => println!(rt; "NotJson"),
+        Err(ScenarioFault::NotBuilt) => println!(rt; "NotBuilt"),
+        Err(ScenarioFault::NoMemory) => println!(rt; "NoMemory"),
+        Err(ScenarioFault::Field { path }) => tell_path(rt, "Field ", path.as_bytes()),
+        Err(ScenarioFault::Unknown { path }) => tell_path(rt, "Unknown ", path.as_bytes()),
+        Err(ScenarioFault::Range { path }) => tell_path(rt, "Range ", path.as_bytes()),
+        Err(ScenarioFault::Limit { path }) => tell_path(rt, "Limit ", path.as_bytes()),
+    }
+}
+
+/// A frame's time stamp, its length on the network, and its bytes in hexadecimal digits.
+fn tell_frame(rt: &HostRuntime, taken: &Taken) -> io::Result<()> {
+    let (seconds, fraction, original) = (taken.seconds, taken.fraction, taken.original);
+    print!(rt; " {seconds} {fraction} {original} ")?;
+    for byte in taken.frame.as_bytes() {
+        print!(rt; "{byte:02x}")?;
+    }
+    Ok(())
+}
+
+fn tell_frames(rt: &HostRuntime, capture: &Capture) -> io::Result<()> {
+    print!(rt;
+        "{}",
+        if capture.nanos {
+            "accepted nanos"
+        } else {
+            "accepted micros"
+        }
+    )?;
+    for taken in capture.frames.as_slice() {
+        tell_frame(rt, taken)?;
+    }
+    println!(rt; "")
+}
+
+fn tell_capture(rt: &HostRuntime, bytes: &[u8]) -> io::Result<()> {
+    match read_capture(rt.alloc(), bytes) {
+        Ok(capture) => tell_frames(rt, &capture),
+        Err(CaptureFault::CutHeader) => println!(rt; "CutHeader"),
+        Err(CaptureFault::Magic) => println!(rt; "Magic"),
+        Err(CaptureFault::Major) => println!(rt; "Major"),
+        Err(CaptureFault::LinkType) => println!(rt; "LinkType"),
+        Err(CaptureFault::CutRecord { at }) => println!(rt; "CutRecord {at}"),
+        Err(CaptureFault::LongRecord { at }) => println!(rt; "LongRecord {at}"),
+        Err(CaptureFault::TooMany) => println!(rt; "TooMany"),
+        Err(CaptureFault::NoMemory) => println!(rt; "NoMemory"),
+    }
+}
+
+fn main(rt: HostRuntime) -> io::Result<()> {
+    for line in rt.lines(rt.alloc()) {
+        let line = line?;
+        if let Some(text) = line.strip_prefix("scenario ") {
+            tell_scenario(&rt, text.as_bytes())?;
+        } else if let Some(digits) = line.strip_prefix("capture ") {
+            let bytes = bytes_of(rt.alloc(), digits.as_bytes())?;
+            tell_capture(&rt, bytes.as_slice())?;
+        }
+    }
+    Ok(())
+}

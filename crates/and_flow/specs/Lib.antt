@@ -1,1 +1,1 @@
--- none: the definition of the cache is the policy's, since histories cite it too
+pub mod Newest

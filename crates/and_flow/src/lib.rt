@@ -6,6 +6,8 @@
 
 mod cache;
 mod group;
+mod laws;
 
 pub use and_policy::Cached;
 pub use cache::FlowCache;
+pub use laws::caches_answer_the_newest;

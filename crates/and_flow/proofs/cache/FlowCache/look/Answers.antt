@@ -1,4 +1,4 @@
-use Rattle.std.proofs.Common.{◌≡◌, ◌∙◌, refl}
+use Rattle.std.proofs.Common.{◌∙◌, refl}
 use Rattle.and_policy.specs.Caches.{look}
 use Rattle.and_flow.proofs.cache.FlowCache.look.Goals as goal
 

@@ -33,6 +33,3 @@ pub use port::{Port, UsageKey};
 pub use register::{Register, Residence, Seat};
 pub use tables::{Batch, Tables};
 pub use underlay::{flow_hash, host_address, redirect_address, route_address};
-
-#[cfg(test)]
-mod tests;

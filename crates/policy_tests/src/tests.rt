@@ -1,14 +1,11 @@
 //! Outside vectors, and each call once.
 ghost use Rattle.std.specs.Prelude.{◌≡◌, length};
 
-use crate::decision::{Dest, Exit, Landing, Leaving, Located, Name, Routed};
-use crate::entry::{Entry, EntryFault, Op, Order, Prefix, Route, Rule, Side, Target};
-use crate::log::Log;
-use crate::memory::NoMemory;
-use crate::packet::Tuple;
-use crate::plain;
-use crate::tables::{Batch, Tables};
-use crate::underlay::{flow_hash, host_address, redirect_address, route_address};
+use and_policy::{
+    Batch, Dest, Entry, EntryFault, Exit, Landing, Leaving, Located, Log, Name, NoMemory, Op,
+    Order, Prefix, Route, Routed, Rule, Side, Tables, Target, Tuple, flow_hash, host_address,
+    plain, redirect_address, route_address,
+};
 use std::alloc::Global;
 use std::test::Fail;
 

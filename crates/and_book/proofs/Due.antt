@@ -1,4 +1,11 @@
 -- In a run of a built plan an actor may act by what is kept where it is enabled; and the packet of the step that is due is one of a VM with a name.
+use Rattle.std.proofs.Common.{ℕ, ◌+◌, ◌<◌, ◌≤◌, Bool, true, false, ⊎_elim, arith}
+use Rattle.std.proofs.lemmas.Bool.{cases_lt}
+use Rattle.and_events.specs.Ordered.{IsFirst}
+use Rattle.and_events.specs.Places.{actor_number, actor_count, IsActor}
+use Rattle.and_book.specs.Enabling.{acts_at}
+use Rattle.and_book.specs.Views.{NoneEnabled}
+use Rattle.and_book.proofs.Numbered.{at_number, at_acts, number_below}
 use Rattle.std.proofs.Common.{◌≡◌, ℕ, ◌<◌, Bool, true, List, length, sym, ap, ◌∙◌, refl, subst, Option, Some, None}
 use Rattle.std.specs.Prelude.{slice_get, unwrap_or, ◌↔◌, ◌==◌, IsTrue}
 use Rattle.std.proofs.lemmas.Option.{unwrap_or-slice_get, slice_get_within}
@@ -23,7 +30,7 @@ use Rattle.and_laws.proofs.Steps.{does}
 use Rattle.and_laws.proofs.GoingOn.{number_of, find_live}
 use Rattle.and_laws.proofs.Unstuck.{are_free}
 use Rattle.and_laws.proofs.Sizes.{sizes, nodes as nodes_of}
-use Rattle.and_book.specs.Inside.{Kept, Stands}
+use Rattle.and_book.specs.Inside.{holds_of, Kept, Stands}
 use Rattle.and_book.specs.Enabling.{CanDo, CanAct, IsInjectable, vm_in}
 use Rattle.and_book.proofs.Known.{added_named, known_log, built_step}
 use Rattle.and_book.proofs.PlainPorts.{IsPlain, plain_ports, plain_at, not_hairpin}
@@ -44,24 +51,24 @@ module _ (plan : Plan) (h : List Event) (sound : IsSound plan) (built : IsBuilt 
   no_pins host vm is = no_pin (port_at s.ports host vm) (plain_at s.ports host vm (plain_ports plan h built r)) is
 
   abbrev CanActNow : Actor → Type 0
-  CanActNow a = CanAct plan.settings plan.packets s.programmes s.flow (slice_get plan.steps s.next) a
+  CanActNow a = CanAct plan.settings plan.packets s.programmes s.node_holds s.flow (slice_get plan.steps s.next) a
 
   pub may_act : (a : Actor) → CanActNow a → Enabled plan s a
-  may_act (HostInstall k) (is, can) = installer_may plan s (are_free plan h built r) (Host k) is can
-  may_act (GateInstall k) (is, can) = installer_may plan s (are_free plan h built r) (Gate k) is can
-  may_act (Worker k w) (is, can) = works plan s (are_free plan h built r) (Worker k w) is tt can
-  may_act (Coproc k) (is, can) = works plan s (are_free plan h built r) (Coproc k) is tt can
-  may_act (Gateway k) (is, can) = works plan s (are_free plan h built r) (Gateway k) is tt can
+  may_act (HostInstall k) (is, can) = installer_may plan s (Host k) is can
+  may_act (GateInstall k) (is, can) = installer_may plan s (Gate k) is can
+  may_act (Worker k w) (is, can) = works plan s (Worker k w) is tt can
+  may_act (Coproc k) (is, can) = works plan s (Coproc k) is tt can
+  may_act (Gateway k) (is, can) = works plan s (Gateway k) is tt can
   may_act Controller (is, can) = absurd can
   may_act Driver (is, can) =
       does_due plan s (are_free plan h built r) (sizes plan h) (nodes_of plan h) no_pins (slice_get plan.steps s.next) can
 
   pub may_act_of : (a : Actor) → Enabled plan s a → CanActNow a
-  may_act_of (HostInstall k) e = installer_was plan s (are_free plan h built r) (Host k) e
-  may_act_of (GateInstall k) e = installer_was plan s (are_free plan h built r) (Gate k) e
-  may_act_of (Worker k w) e = worked plan s (are_free plan h built r) (Worker k w) tt e
-  may_act_of (Coproc k) e = worked plan s (are_free plan h built r) (Coproc k) tt e
-  may_act_of (Gateway k) e = worked plan s (are_free plan h built r) (Gateway k) tt e
+  may_act_of (HostInstall k) e = installer_was plan s (Host k) e
+  may_act_of (GateInstall k) e = installer_was plan s (Gate k) e
+  may_act_of (Worker k w) e = worked plan s (Worker k w) tt e
+  may_act_of (Coproc k) e = worked plan s (Coproc k) tt e
+  may_act_of (Gateway k) e = worked plan s (Gateway k) tt e
   may_act_of Controller (host, vm, (to, entry, there, port, all)) = absurd (not_hairpin s.ports host vm to entry (plain_ports plan h built r) port)
   may_act_of Driver (step, told, can) = (
     tt,
@@ -106,11 +113,51 @@ module _ (plan : Plan) (h : List Event) (sound : IsSound plan) (built : IsBuilt 
   -- ---- by what is kept
 
   pub enabled_by : (k : Kept) → k.roads.settings ≡ plan.settings → (due : Option Step) (a : Actor) (b : Bool) → Stands k s → due ≡ slice_get plan.steps s.next
-      → (IsTrue b ↔ CanAct k.roads.settings plan.packets k.progress.programmes k.roads.flow due a) → IsTrue b ↔ Enabled plan s a
+      → (IsTrue b ↔ CanAct k.roads.settings plan.packets k.progress.programmes (holds_of k) k.roads.flow due a) → IsTrue b ↔ Enabled plan s a
   enabled_by k settings due a b st is can =
       let now_is : IsTrue b ↔ CanActNow a =
-      subst (λ o. IsTrue b ↔ CanAct plan.settings plan.packets s.programmes s.flow o a) is
-      (subst (λ f. IsTrue b ↔ CanAct plan.settings plan.packets s.programmes f due a) st.flow
-      (subst (λ p. IsTrue b ↔ CanAct plan.settings plan.packets p k.roads.flow due a) st.programmes
-      (subst (λ v. IsTrue b ↔ CanAct v plan.packets k.progress.programmes k.roads.flow due a) settings can))) in
+      subst (λ o. IsTrue b ↔ CanAct plan.settings plan.packets s.programmes s.node_holds s.flow o a) is
+      (subst (λ f. IsTrue b ↔ CanAct plan.settings plan.packets s.programmes s.node_holds f due a) st.flow
+      (subst (λ m. IsTrue b ↔ CanAct plan.settings plan.packets s.programmes m k.roads.flow due a) st.holds
+      (subst (λ p. IsTrue b ↔ CanAct plan.settings plan.packets p (holds_of k) k.roads.flow due a) st.programmes
+      (subst (λ v. IsTrue b ↔ CanAct v plan.packets k.progress.programmes (holds_of k) k.roads.flow due a) settings can)))) in
       ((λ t. may_act a (now_is.0 t)), (λ e. now_is.1 (may_act_of a e)))
+
+  -- ---- by number
+
+  pub acts_as_kept : (k : Kept) → k.roads.settings ≡ plan.settings → Stands k s → (driver : Bool) (n : ℕ) → acts_at k.roads.settings k.progress.programmes (holds_of k) k.roads.flow driver n ≡ acts_at plan.settings s.programmes s.node_holds s.flow driver n
+  acts_as_kept k settings st driver n =
+      ap (λ v. acts_at v k.progress.programmes (holds_of k) k.roads.flow driver n) settings
+      ∙ (ap (λ p. acts_at plan.settings p (holds_of k) k.roads.flow driver n) st.programmes
+      ∙ (ap (λ m. acts_at plan.settings s.programmes m k.roads.flow driver n) st.holds ∙ ap (λ f. acts_at plan.settings s.programmes s.node_holds f driver n) st.flow))
+
+  pub drives_kept : (k : Kept) → k.roads.settings ≡ plan.settings → Stands k s → (due : Option Step) → due ≡ slice_get plan.steps s.next → (driver : Bool) → (IsTrue driver ↔ CanDo k.roads.settings plan.packets k.progress.programmes k.roads.flow due)
+      → IsTrue driver ↔ CanDo plan.settings plan.packets s.programmes s.flow (slice_get plan.steps s.next)
+  drives_kept k settings st due is driver drives =
+      subst (λ o. IsTrue driver ↔ CanDo plan.settings plan.packets s.programmes s.flow o) is
+      (subst (λ f. IsTrue driver ↔ CanDo plan.settings plan.packets s.programmes f due) st.flow
+      (subst (λ p. IsTrue driver ↔ CanDo plan.settings plan.packets p k.roads.flow due) st.programmes
+      (subst (λ v. IsTrue driver ↔ CanDo v plan.packets k.progress.programmes k.roads.flow due) settings drives)))
+
+  module _ (driver : Bool) (drives : IsTrue driver ↔ CanDo plan.settings plan.packets s.programmes s.flow (slice_get plan.steps s.next)) where
+    abbrev ActsAt : ℕ → Bool
+    ActsAt n = acts_at plan.settings s.programmes s.node_holds s.flow driver n
+
+    -- an actor whose number acts is enabled
+    pub enabled_at : (a : Actor) → IsActor plan.settings a → ActsAt (actor_number plan.settings a) ≡ true → Enabled plan s a
+    enabled_at a is e = may_act a (is, at_acts plan.settings plan.packets s.programmes s.node_holds s.flow (slice_get plan.steps s.next) driver drives a is e)
+
+    -- so no enabled actor is among numbers that do not act
+    pub not_enabled_at : (a : Actor) → IsActor plan.settings a → ActsAt (actor_number plan.settings a) ≡ false → Enabled plan s a → ⊥
+    not_enabled_at a is e enabled =
+        let acts = at_number plan.settings plan.packets s.programmes s.node_holds s.flow (slice_get plan.steps s.next) driver drives a (may_act_of a enabled).0 (may_act_of a enabled).1 in
+        absurd (let clash : true ≡ false = sym acts ∙ e in cc)
+
+    pub is_first : (n : ℕ) (a : Actor) → ((j : ℕ) → j < n → ActsAt j ≡ false) → actor_number plan.settings a ≡ n → IsFirst plan s a
+    is_first n a least number b is enabled =
+        ⊎_elim (λ (early : actor_number plan.settings b < n). absurd (not_enabled_at b is (least (actor_number plan.settings b) early) enabled))
+        (λ (late : n ≤ actor_number plan.settings b). omega (arith, number, late)) (cases_lt (actor_number plan.settings b) n)
+
+    pub none_enabled : (n : ℕ) → ((j : ℕ) → j < n → ActsAt j ≡ false) → actor_count plan.settings ≤ n → NoneEnabled plan s
+    none_enabled n least all a is enabled =
+        not_enabled_at a is (least (actor_number plan.settings a) (omega (arith, number_below plan.settings a is, all))) enabled

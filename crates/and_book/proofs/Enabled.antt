@@ -1,4 +1,11 @@
--- Who may act by what is kept is who is enabled, where nothing is held and no hairpin is made.
+-- Who may act by what is kept is who is enabled.
+use Rattle.std.proofs.lemmas.Bool.{ltb-true, lt-ltb, eqb-true, eq-eqb}
+use Rattle.std.proofs.Common.{◌||◌, ◌&&◌, not, false}
+use Rattle.std.specs.Prelude.{◌==◌}
+use Rattle.and_events.specs.State.{NodeHolds, announced_of}
+use Rattle.and_events.specs.Legal.{forward_held, install_held}
+use Rattle.and_kept.specs.Nodes.{is_ready}
+use Rattle.and_kept.specs.Moves.{IsBusy}
 use Rattle.std.proofs.Common.{◌≡◌, ℕ, ◌+◌, ◌-◌, ◌<◌, ◌≤◌, Bool, true, List, [], ◌∷◌, length, refl, sym, ap, ◌∙◌, subst, arith, Option, Some, None, ⊎_elim, inl, inr, ◌⊎◌}
 use Rattle.std.specs.Prelude.{nat_lt, if◌then◌else◌, ◌↔◌, IsTrue}
 use Rattle.std.proofs.lemmas.Bool.{cases_lt}
@@ -27,34 +34,19 @@ use Rattle.and_laws.specs.Sizes.{HasSizes, HasNodes}
 use Rattle.and_laws.proofs.GoingOn.{AreFree, queue_of}
 use Rattle.and_events.specs.Places.{Handles}
 use Rattle.and_kept.specs.Moves.{source_in}
-use Rattle.and_book.specs.Enabling.{CanProgramme, IsBusy, IsStill, CanDo, Acts}
+use Rattle.and_book.specs.Enabling.{IsStill, CanDo, Acts}
 use Rattle.and_book.proofs.Taking.{takes_from}
 
--- what is in the actor's hand and queue, by their places
-pub busy : (v : Settings) (f : Flow) (a : Actor) (hand from : ℕ) (x y b : Bool) → hand ≡ hand_place v a → from ≡ queue_place v (node_of a) (source_in v f a)
-    → (IsTrue x ↔ ((h : Held) × (hand_at f.hands hand ≡ Some h))) → (IsTrue y ↔ (queue_at f.queues from ≡ [] → ⊥)) → (IsTrue b ↔ (IsTrue x ⊎ IsTrue y))
-    → IsTrue b ↔ IsBusy v f a
-busy v f a hand from x y b at place has finds either =
-    let has_now : IsTrue x ↔ ((h : Held) × (hand_at f.hands (hand_place v a) ≡ Some h)) =
-    subst (λ n. IsTrue x ↔ ((h : Held) × (hand_at f.hands n ≡ Some h))) at has in
-    let finds_now : IsTrue y ↔ (queue_at f.queues (queue_place v (node_of a) (source_in v f a)) ≡ [] → ⊥) =
-    subst (λ n. IsTrue y ↔ (queue_at f.queues n ≡ [] → ⊥)) place finds in (
-      (λ t. ⊎_elim (λ (u : IsTrue x). inl (has_now.0 u)) (λ (u : IsTrue y). inr (finds_now.0 u)) (either.0 t)),
-      (λ is. either.1
-          (⊎_elim (λ (u : (h : Held) × (hand_at f.hands (hand_place v a) ≡ Some h)). inl (has_now.1 u))
-          (λ (u : queue_at f.queues (queue_place v (node_of a) (source_in v f a)) ≡ [] → ⊥). inr (finds_now.1 u)) is)),
-    )
-
 -- whoever takes packets acts where it is busy
-pub acts_as : (v : Settings) (packets : List Packet) (p : Programmes) (f : Flow) (due : Option Step) (a : Actor) (b : Bool) → Handles a → (IsTrue b ↔ IsBusy v f a)
-    → IsTrue b ↔ Acts v packets p f due a
-acts_as v packets p f due (Worker h w) b t is = is
-acts_as v packets p f due (Coproc h) b t is = is
-acts_as v packets p f due (Gateway g) b t is = is
-acts_as v packets p f due (HostInstall h) b t is = absurd t
-acts_as v packets p f due (GateInstall g) b t is = absurd t
-acts_as v packets p f due Controller b t is = absurd t
-acts_as v packets p f due Driver b t is = absurd t
+pub acts_as : (v : Settings) (packets : List Packet) (p : Programmes) (m : NodeHolds) (f : Flow) (due : Option Step) (a : Actor) (b : Bool) → Handles a → (IsTrue b ↔ IsBusy v f m.forward a)
+    → IsTrue b ↔ Acts v packets p m f due a
+acts_as v packets p m f due (Worker h w) b t is = is
+acts_as v packets p m f due (Coproc h) b t is = is
+acts_as v packets p m f due (Gateway g) b t is = is
+acts_as v packets p m f due (HostInstall h) b t is = absurd t
+acts_as v packets p m f due (GateInstall g) b t is = absurd t
+acts_as v packets p m f due Controller b t is = absurd t
+acts_as v packets p m f due Driver b t is = absurd t
 
 -- ---- the queue from which an actor takes
 
@@ -82,14 +74,42 @@ module _ (plan : Plan) (s : State) where
 
 -- ---- installers
 
-module _ (plan : Plan) (s : State) (free : AreFree plan s) where
-  pub installer_may : (node : Node) → IsNode plan.settings node → CanProgramme s.programmes (node_place plan.settings node) → CanAnnounce plan s node ⊎ CanInstall plan s node
-  installer_may node is (inl (same, more)) = inl (is, free.install node, same, more)
-  installer_may node is (inr less) = inr (is, less)
+or_is : (a b : Bool) → (a || b) ≡ true → (a ≡ true) ⊎ (b ≡ true)
+or_is true b e = inl refl
+or_is false b e = inr e
 
-  pub installer_was : (node : Node) → CanAnnounce plan s node ⊎ CanInstall plan s node → IsNode plan.settings node × CanProgramme s.programmes (node_place plan.settings node)
-  installer_was node (inl can) = (can.0, inl (can.2, can.3))
-  installer_was node (inr can) = (can.0, inr can.1)
+is_or : (a b : Bool) → (a ≡ true) ⊎ (b ≡ true) → (a || b) ≡ true
+is_or true b either = refl
+is_or false b (inl e) = absurd (cc)
+is_or false b (inr e) = e
+
+and_is : (a b : Bool) → (a && b) ≡ true → (a ≡ true) × (b ≡ true)
+and_is true b e = (refl, e)
+and_is false b e = absurd (cc)
+
+is_and : (a b : Bool) → a ≡ true → b ≡ true → (a && b) ≡ true
+is_and a b e g = rw e g
+
+not_is : (a : Bool) → not a ≡ true → a ≡ false
+not_is true e = absurd (cc)
+not_is false e = refl
+
+module _ (plan : Plan) (s : State) where
+  pub installer_may : (node : Node) → IsNode plan.settings node → is_ready s.programmes s.node_holds.install (node_place plan.settings node) ≡ true → CanAnnounce plan s node ⊎ CanInstall plan s node
+  unfolding is_ready
+  installer_may node is e =
+      ⊎_elim (λ (l : nat_lt (installed_of plan s node) (announced_of plan s node) ≡ true). inr (is, ltb-true _ _ l))
+      (λ (r : (not (install_held plan s node) && ((announced_of plan s node == installed_of plan s node) && nat_lt (announced_of plan s node) (length (programme_of plan s node)))) ≡ true).
+      let first = and_is _ _ r in
+      let second = and_is _ _ first.1 in
+      inl (is, not_is _ first.0, eqb-true _ _ second.0, ltb-true _ _ second.1))
+      (or_is _ _ e)
+
+  pub installer_was : (node : Node) → CanAnnounce plan s node ⊎ CanInstall plan s node → IsNode plan.settings node × (is_ready s.programmes s.node_holds.install (node_place plan.settings node) ≡ true)
+  unfolding is_ready
+  installer_was node (inl can) =
+      (can.0, is_or _ _ (inr (is_and _ _ (ap not can.1) (is_and _ _ (eq-eqb _ _ can.2) (lt-ltb _ _ can.3)))))
+  installer_was node (inr can) = (can.0, is_or _ _ (inl (lt-ltb _ _ can.1)))
 
   -- ---- whoever takes packets
 
@@ -97,35 +117,38 @@ module _ (plan : Plan) (s : State) (free : AreFree plan s) where
   Works a = (IsActor plan.settings a × HasHand plan s a) ⊎ ((q : Queue) × (i : ℕ) × CanTake plan s a q i)
 
   takes_first : (a : Actor) (xs : List ℕ) → IsActor plan.settings a → Handles a → hand_at s.flow.hands (hand_place plan.settings a) ≡ None
-      → queue_at s.flow.queues (queue_place plan.settings (node_of a) (source_in plan.settings s.flow a)) ≡ xs → (xs ≡ [] → ⊥) → Works a
-  takes_first a [] is t empty e some = absurd (some refl)
-  takes_first a (i ∷ rest) is t empty e some =
+      → forward_held plan s (node_of a) ≡ false → queue_at s.flow.queues (queue_place plan.settings (node_of a) (source_in plan.settings s.flow a)) ≡ xs → (xs ≡ [] → ⊥) → Works a
+  takes_first a [] is t empty goes e some = absurd (some refl)
+  takes_first a (i ∷ rest) is t empty goes e some =
       inr (
         source_in plan.settings s.flow a,
         i,
-        record { actor = is; free = empty; running = free.forward (node_of a); queue = takes_from plan s a t; front = (rest, e) },
+        record { actor = is; free = empty; running = goes; queue = takes_from plan s a t; front = (rest, e) },
       )
 
   works_by : (a : Actor) (o : Option Held) → IsActor plan.settings a → Handles a → hand_at s.flow.hands (hand_place plan.settings a) ≡ o
-      → (queue_at s.flow.queues (queue_place plan.settings (node_of a) (source_in plan.settings s.flow a)) ≡ [] → ⊥) → Works a
-  works_by a (Some h) is t e some = inl (is, (h, e))
-  works_by a None is t e some = takes_first a _ is t e refl some
+      → forward_held plan s (node_of a) ≡ false → (queue_at s.flow.queues (queue_place plan.settings (node_of a) (source_in plan.settings s.flow a)) ≡ [] → ⊥) → Works a
+  works_by a (Some h) is t e goes some = inl (is, (h, e))
+  works_by a None is t e goes some = takes_first a _ is t e goes refl some
 
-  pub works : (a : Actor) → IsActor plan.settings a → Handles a → IsBusy plan.settings s.flow a → Works a
+  pub works : (a : Actor) → IsActor plan.settings a → Handles a → IsBusy plan.settings s.flow s.node_holds.forward a → Works a
   works a is t (inl has) = inl (is, has)
-  works a is t (inr some) = works_by a _ is t refl some
+  works a is t (inr (goes, some)) = works_by a _ is t refl goes some
 
-  pub worked : (a : Actor) → Handles a → Works a → IsActor plan.settings a × IsBusy plan.settings s.flow a
+  pub worked : (a : Actor) → Handles a → Works a → IsActor plan.settings a × IsBusy plan.settings s.flow s.node_holds.forward a
   worked a t (inl (is, has)) = (is, inl has)
   worked a t (inr (q, i, can)) = (
     can.actor,
-    inr (λ none. not_empty plan s _ i can.front.0 can.front.1
-        (ap (λ x. queue_at s.flow.queues (queue_place plan.settings (node_of a) x)) (sym (source_is plan s a q i t can)) ∙ none)),
+    inr (
+      can.running,
+      (λ none. not_empty plan s _ i can.front.0 can.front.1
+          (ap (λ x. queue_at s.flow.queues (queue_place plan.settings (node_of a) x)) (sym (source_is plan s a q i t can)) ∙ none)),
+    ),
   )
 
   -- ---- at rest, and over
 
-  module _ (sized : HasSizes plan s.flow) (noded : HasNodes plan s.programmes) where
+  module _ (free : AreFree plan s) (sized : HasSizes plan s.flow) (noded : HasNodes plan s.programmes) where
     place_within : (node : Node) → IsNode plan.settings node → node_place plan.settings node < node_count plan.settings
     place_within (Host h) is = omega (arith, is)
     place_within (Gate g) is = omega (arith, is)

@@ -1,5 +1,5 @@
 -- A packet in hand is settled: the move is made from that hand, and changes nothing but the packets.
-use Rattle.std.proofs.Common.{◌≡◌, ℕ, ◌+◌, ◌<◌, Bool, true, false, cond, length, set, refl, ap, arith, Option, Some, None}
+use Rattle.std.proofs.Common.{◌∙◌, ◌≡◌, ℕ, ◌+◌, ◌<◌, Bool, true, false, cond, length, set, refl, ap, arith, Option, Some, None}
 use Rattle.std.specs.Prelude.{is_some}
 use Rattle.std.specs.List.{count_by}
 use Rattle.and_policy.specs.declared.decision.GateDecision.{GateDecision}
@@ -29,7 +29,7 @@ use Rattle.and_events.specs.Places.{hand_place, node_of}
 use Rattle.and_events.specs.Flow.{Flow, Move, Stay, Enter, Lose, Grab, Send, SealLater, Stop, carried_in, flow_after, hand_at}
 use Rattle.and_events.specs.Ports.{ports_after}
 use Rattle.and_events.specs.Programming.{programmes_after}
-use Rattle.and_events.specs.State.{State, after, move_of, word_of, ports_move_of, step_of, send, departs, passes, goes_back, arrives, dest_endpoint, dest_net, source_net, carried_at}
+use Rattle.and_events.specs.State.{State, after, move_of, word_of, ports_move_of, step_of, send, departs, passes, goes_back, arrives, dest_endpoint, dest_net, source_net, carried_at, holds_after}
 use Rattle.and_laws.specs.Fates.{in_hand_count}
 use Rattle.and_kept.specs.Lanes.{Roads}
 use Rattle.and_kept.specs.Settling.{passage_of, return_of, gate_event, gate_move}
@@ -133,10 +133,10 @@ gate_settles v f a i (decisions.Routed at said) = tt
 gate_settles v f a i (decisions.Located at said) = tt
 
 -- such an event changes the packets alone
-pub stands_settled : (plan : Plan) (s : State) (e : Event) (k : Kept) (roads : Roads) → Settles e → Stands k s → roads.flow ≡ flow_after s.flow (move_of plan s e) → Stands (record k { roads = roads }) (after plan s e)
-unfolding after word_of ports_move_of step_of programmes_after ports_after
-stands_settled plan s (Egress a i at way d) k roads t st flow = record { next = st.next; programmes = st.programmes; ports = st.ports; flow = flow }
-stands_settled plan s (Route a i at p) k roads t st flow = record { next = st.next; programmes = st.programmes; ports = st.ports; flow = flow }
-stands_settled plan s (Redirect a i at back) k roads t st flow = record { next = st.next; programmes = st.programmes; ports = st.ports; flow = flow }
-stands_settled plan s (Ingress a i at way arrival) k roads t st flow = record { next = st.next; programmes = st.programmes; ports = st.ports; flow = flow }
-stands_settled plan s e k roads t st flow = absurd t
+pub stands_settled : (plan : Plan) (s : State) (e : Event) (k : Kept) (roads : Roads) → Settles e → Stands k s → roads.held ≡ k.roads.held → roads.flow ≡ flow_after s.flow (move_of plan s e) → Stands (record k { roads = roads }) (after plan s e)
+unfolding after holds_after word_of ports_move_of step_of programmes_after ports_after
+stands_settled plan s (Egress a i at way d) k roads t st marks flow = record { next = st.next; programmes = st.programmes; ports = st.ports; flow = flow; holds = ap (λ m. record { install = k.progress.held; forward = m }) marks ∙ st.holds }
+stands_settled plan s (Route a i at p) k roads t st marks flow = record { next = st.next; programmes = st.programmes; ports = st.ports; flow = flow; holds = ap (λ m. record { install = k.progress.held; forward = m }) marks ∙ st.holds }
+stands_settled plan s (Redirect a i at back) k roads t st marks flow = record { next = st.next; programmes = st.programmes; ports = st.ports; flow = flow; holds = ap (λ m. record { install = k.progress.held; forward = m }) marks ∙ st.holds }
+stands_settled plan s (Ingress a i at way arrival) k roads t st marks flow = record { next = st.next; programmes = st.programmes; ports = st.ports; flow = flow; holds = ap (λ m. record { install = k.progress.held; forward = m }) marks ∙ st.holds }
+stands_settled plan s e k roads t st marks flow = absurd t

@@ -18,6 +18,7 @@ pub mod Outgoing
 pub mod FromHand
 pub mod Settling
 pub mod Enabled
+pub mod Numbered
 pub mod Due
 pub mod Next
 pub mod Telling

@@ -1,7 +1,7 @@
 -- One more line keeps a book.
 use Rattle.and_events.specs.declared.plan.Settings.{Settings}
 use Rattle.and_events.specs.Flow.{Flow}
-use Rattle.std.proofs.Common.{◌≡◌, ℕ, ◌+◌, ◌-◌, ◌≤◌, vec_len, vec_capacity, List, [], ◌∷◌, ◌++◌, length, refl, sym, ap, ◌∙◌, subst, arith, replicate, cond, Option, None}
+use Rattle.std.proofs.Common.{◌≡◌, ℕ, ◌+◌, ◌-◌, ◌≤◌, vec_len, vec_capacity, List, [], ◌∷◌, ◌++◌, length, refl, sym, ap, ◌∙◌, subst, arith, replicate, false, cond, Option, None}
 use Rattle.std.specs.Prelude.{slice_index_or, is_some}
 use Rattle.std.specs.List.{All, count_by}
 use Rattle.std.proofs.lemmas.Grind.{fold-append}
@@ -100,9 +100,9 @@ stands_start : (plan : Plan) (k : Kept) (vms nodes packets : ℕ) → k.next ≡
     → k.progress.programmes ≡ record { log = []; ops = replicate nodes []; announced = replicate nodes 0; installed = replicate nodes 0 }
     → k.ports ≡ replicate vms (replicate plan.settings.hosts Absent)
     → k.roads.flow ≡ record { queues = replicate (queue_count plan.settings) []; hands = replicate (hand_count plan.settings) None; carried = replicate packets (unsent plan.settings) }
-    → Stands k (start plan)
+    → k.progress.held ≡ replicate nodes false → k.roads.held ≡ replicate (node_count plan.settings) false → Stands k (start plan)
 unfolding start
-stands_start plan k vms nodes packets zero n v p programmes ports flow = record { next = zero; programmes = cc; ports = cc; flow = cc }
+stands_start plan k vms nodes packets zero n v p programmes ports flow installs forwards = record { next = zero; programmes = cc; ports = cc; flow = cc; holds = cc }
 
 abbrev no_hand : Option Held
 no_hand = None
@@ -114,9 +114,9 @@ pub keeps_start : (plan : Plan) (threads : ℕ) (lines : List Line) (k : Kept) (
     → k.progress.programmes ≡ record { log = []; ops = replicate nodes []; announced = replicate nodes 0; installed = replicate nodes 0 }
     → k.ports ≡ replicate vms (replicate plan.settings.hosts Absent)
     → k.roads.flow ≡ record { queues = replicate (queue_count plan.settings) []; hands = replicate (hand_count plan.settings) None; carried = replicate packets (unsent plan.settings) }
-    → IsSized plan k → HasParcels plan [] k.roads → Keeps plan threads lines k spare
-keeps_start plan threads lines k spare vms nodes packets sound built none zero n v p programmes ports flow sized parcels =
-    let st : Stands k (state plan []) = subst (Stands k) (start_is plan) (stands_start plan k vms nodes packets zero n v p programmes ports flow) in
+    → k.progress.held ≡ replicate nodes false → k.roads.held ≡ replicate (node_count plan.settings) false → IsSized plan k → HasParcels plan [] k.roads → Keeps plan threads lines k spare
+keeps_start plan threads lines k spare vms nodes packets sound built none zero n v p programmes ports flow installs forwards sized parcels =
+    let st : Stands k (state plan []) = subst (Stands k) (start_is plan) (stands_start plan k vms nodes packets zero n v p programmes ports flow installs forwards) in
     subst (λ ls. Keeps plan threads ls k spare) (sym none)
     (record {
       sound = sound;

@@ -71,7 +71,7 @@ module _ (plan : Plan) (threads : ℕ) (lines : List Line) (k : Kept) (spare : �
       let node : node_of from.actor ≡ node_of (actor_of e) = ap (λ (f : Holder). node_of f.actor) is ∙ ap node_of (sym whose) in
       keeps_more plan threads lines lines' k (record k { roads = roads' }) spare spare' seat e keeps legal (seated ∙ ap (seat_of threads plan.settings) (sym whose)) longer
       (record {
-        stands = stands_settled plan s e k roads' settling keeps.stands (ap (λ f. flow_after f m) keeps.stands.flow ∙ ap (flow_after s.flow) move);
+        stands = stands_settled plan s e k roads' settling keeps.stands refl (ap (λ f. flow_after f m) keeps.stands.flow ∙ ap (flow_after s.flow) move);
         settings = refl;
         limit = refl;
         vms = refl;

@@ -17,7 +17,7 @@ use Rattle.and_events.specs.Places.{node_place, queue_place}
 use Rattle.and_events.specs.Flow.{Flow, flow_after, enter_by}
 use Rattle.and_events.specs.Ports.{ports_after}
 use Rattle.and_events.specs.Programming.{Logs, Announces, Installs, programmes_after, programme_at, announced_at}
-use Rattle.and_events.specs.State.{State, after, move_of, word_of, ports_move_of, step_of, word_of_step, ports_move_of_step, ports_move_of_entry, programme_of, announced_of, home, packet_at}
+use Rattle.and_events.specs.State.{State, after, move_of, word_of, ports_move_of, step_of, word_of_step, ports_move_of_step, ports_move_of_entry, programme_of, announced_of, home, packet_at, holds_after}
 use Rattle.and_events.specs.Legal.{Legal, CanAnnounce, CanInstall, CanStep, Steps, IsAtRest, IsOver, KnowsVm, EndsAt, inject_end}
 use Rattle.and_laws.specs.Fates.{in_hand_count}
 use Rattle.and_kept.specs.Nodes.{Progressed}
@@ -32,22 +32,22 @@ pub legal_installed : (plan : Plan) (s : State) (node : Node) (upto : ℕ) → C
 unfolding Legal
 legal_installed plan s node upto can is = (can, is)
 
-pub after_announce : (plan : Plan) (s : State) (k : Kept) (p : Progressed) (node : Node) (place upto : ℕ) → Stands k s → place ≡ node_place plan.settings node → p.programmes ≡ programmes_after k.progress.programmes (Announces place upto) → p.limit ≡ k.progress.limit → p.vms ≡ k.progress.vms → IsAfter plan s (Announce node upto) k (record k { progress = p })
-unfolding after move_of word_of ports_move_of step_of flow_after ports_after
-after_announce plan s k p node place upto st there is limit vms =
+pub after_announce : (plan : Plan) (s : State) (k : Kept) (p : Progressed) (node : Node) (place upto : ℕ) → Stands k s → place ≡ node_place plan.settings node → p.programmes ≡ programmes_after k.progress.programmes (Announces place upto) → p.limit ≡ k.progress.limit → p.vms ≡ k.progress.vms → p.held ≡ k.progress.held → IsAfter plan s (Announce node upto) k (record k { progress = p })
+unfolding after holds_after move_of word_of ports_move_of step_of flow_after ports_after
+after_announce plan s k p node place upto st there is limit vms marks =
     record {
-      stands = record { next = st.next; programmes = is ∙ (ap (λ q. programmes_after q (Announces place upto)) st.programmes ∙ ap (λ n. programmes_after s.programmes (Announces n upto)) there); ports = st.ports; flow = st.flow };
+      stands = record { next = st.next; programmes = is ∙ (ap (λ q. programmes_after q (Announces place upto)) st.programmes ∙ ap (λ n. programmes_after s.programmes (Announces n upto)) there); ports = st.ports; flow = st.flow; holds = ap (λ marks. record { install = marks; forward = k.roads.held }) marks ∙ st.holds };
       settings = refl;
       limit = limit;
       vms = vms;
       nets = refl;
     }
 
-pub after_installed : (plan : Plan) (s : State) (k : Kept) (p : Progressed) (node : Node) (place upto : ℕ) → Stands k s → place ≡ node_place plan.settings node → p.programmes ≡ programmes_after k.progress.programmes (Installs place upto) → p.limit ≡ k.progress.limit → p.vms ≡ k.progress.vms → IsAfter plan s (Installed node upto) k (record k { progress = p })
-unfolding after move_of word_of ports_move_of step_of flow_after ports_after
-after_installed plan s k p node place upto st there is limit vms =
+pub after_installed : (plan : Plan) (s : State) (k : Kept) (p : Progressed) (node : Node) (place upto : ℕ) → Stands k s → place ≡ node_place plan.settings node → p.programmes ≡ programmes_after k.progress.programmes (Installs place upto) → p.limit ≡ k.progress.limit → p.vms ≡ k.progress.vms → p.held ≡ k.progress.held → IsAfter plan s (Installed node upto) k (record k { progress = p })
+unfolding after holds_after move_of word_of ports_move_of step_of flow_after ports_after
+after_installed plan s k p node place upto st there is limit vms marks =
     record {
-      stands = record { next = st.next; programmes = is ∙ (ap (λ q. programmes_after q (Installs place upto)) st.programmes ∙ ap (λ n. programmes_after s.programmes (Installs n upto)) there); ports = st.ports; flow = st.flow };
+      stands = record { next = st.next; programmes = is ∙ (ap (λ q. programmes_after q (Installs place upto)) st.programmes ∙ ap (λ n. programmes_after s.programmes (Installs n upto)) there); ports = st.ports; flow = st.flow; holds = ap (λ marks. record { install = marks; forward = k.roads.held }) marks ∙ st.holds };
       settings = refl;
       limit = limit;
       vms = vms;
@@ -75,28 +75,29 @@ unfolding Legal
 legal_finish plan s n is due can = steps_due plan s n steps.Finish is due can
 
 pub after_wait : (plan : Plan) (s : State) (k : Kept) (n : ℕ) → Stands k s → IsAfter plan s (Wait n) k (record k { next = k.next + 1 })
-unfolding after move_of word_of ports_move_of step_of flow_after ports_after programmes_after
+unfolding after holds_after move_of word_of ports_move_of step_of flow_after ports_after programmes_after
 after_wait plan s k n st =
-    record { stands = record { next = ap (λ m. m + 1) st.next; programmes = st.programmes; ports = st.ports; flow = st.flow }; settings = refl; limit = refl; vms = refl; nets = refl }
+    record { stands = record { next = ap (λ m. m + 1) st.next; programmes = st.programmes; ports = st.ports; flow = st.flow; holds = st.holds }; settings = refl; limit = refl; vms = refl; nets = refl }
 
 pub after_finish : (plan : Plan) (s : State) (k : Kept) (n : ℕ) → Stands k s → IsAfter plan s (Finish n) k (record k { next = k.next + 1 })
-unfolding after move_of word_of ports_move_of step_of flow_after ports_after programmes_after
+unfolding after holds_after move_of word_of ports_move_of step_of flow_after ports_after programmes_after
 after_finish plan s k n st =
-    record { stands = record { next = ap (λ m. m + 1) st.next; programmes = st.programmes; ports = st.ports; flow = st.flow }; settings = refl; limit = refl; vms = refl; nets = refl }
+    record { stands = record { next = ap (λ m. m + 1) st.next; programmes = st.programmes; ports = st.ports; flow = st.flow; holds = st.holds }; settings = refl; limit = refl; vms = refl; nets = refl }
 
 pub legal_append : (plan : Plan) (s : State) (n : ℕ) (e : Entry) → n ≡ s.next → slice_get plan.steps n ≡ Some (steps.Append e) → Legal plan s (Append n)
 unfolding Legal
 legal_append plan s n e is due = (e, (is, due, tt))
 
-pub after_append : (plan : Plan) (s : State) (k : Kept) (p : Progressed) (ports : List (List Port)) (n : ℕ) (e : Entry) → Stands k s → slice_get plan.steps n ≡ Some (steps.Append e) → p.programmes ≡ programmes_after k.progress.programmes (Logs e) → ports ≡ ports_after k.ports (ports_move_of_entry e) → p.limit ≡ k.progress.limit → p.vms ≡ k.progress.vms → IsAfter plan s (Append n) k (record k { next = k.next + 1; progress = p; ports = ports })
-unfolding after move_of word_of ports_move_of step_of flow_after
-after_append plan s k p ports n e st due logged moved limit vms =
+pub after_append : (plan : Plan) (s : State) (k : Kept) (p : Progressed) (ports : List (List Port)) (n : ℕ) (e : Entry) → Stands k s → slice_get plan.steps n ≡ Some (steps.Append e) → p.programmes ≡ programmes_after k.progress.programmes (Logs e) → ports ≡ ports_after k.ports (ports_move_of_entry e) → p.limit ≡ k.progress.limit → p.vms ≡ k.progress.vms → p.held ≡ k.progress.held → IsAfter plan s (Append n) k (record k { next = k.next + 1; progress = p; ports = ports })
+unfolding after holds_after move_of word_of ports_move_of step_of flow_after
+after_append plan s k p ports n e st due logged moved limit vms marks =
     record {
       stands = record {
         next = ap (λ m. m + 1) st.next;
         programmes = logged ∙ (ap (λ q. programmes_after q (Logs e)) st.programmes ∙ ap (λ o. programmes_after s.programmes (word_of_step plan s o)) (sym due));
         ports = moved ∙ (ap (λ q. ports_after q (ports_move_of_entry e)) st.ports ∙ ap (λ o. ports_after s.ports (ports_move_of_step s o)) (sym due));
         flow = st.flow;
+        holds = ap (λ marks. record { install = marks; forward = k.roads.held }) marks ∙ st.holds;
       };
       settings = refl;
       limit = limit;
@@ -109,7 +110,7 @@ unfolding Legal
 legal_inject plan s n i full is due knows ends = (steps_due plan s n (steps.Inject i) is due knows, ends)
 
 pub after_inject : (plan : Plan) (s : State) (k : Kept) (n host : ℕ) (p : ParcelView) (full : Bool) → Stands k s → k.roads.settings ≡ plan.settings → host ≡ home plan s p.packet → IsAfter plan s (Inject n p.packet full) k (record k { next = k.next + 1; roads = entered k.roads host p full })
-unfolding after move_of word_of ports_move_of step_of ports_after programmes_after
+unfolding after holds_after move_of word_of ports_move_of step_of ports_after programmes_after
 after_inject plan s k n host p full st settings there =
     record {
       stands = record {
@@ -118,6 +119,7 @@ after_inject plan s k n host p full st settings there =
         ports = st.ports;
         flow = as_kept plan s k (λ v f. flow_after f (enter_by (queue_place v (Host host) Out) p.packet full)) settings st.flow
             ∙ ap (λ m. flow_after s.flow (enter_by (queue_place plan.settings (Host m) Out) p.packet full)) there;
+        holds = st.holds;
       };
       settings = refl;
       limit = refl;

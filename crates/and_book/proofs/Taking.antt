@@ -23,7 +23,7 @@ use Rattle.and_events.specs.Places.{hand_place, queue_place, node_of}
 use Rattle.and_events.specs.Flow.{Flow, Grab, flow_after, queue_at}
 use Rattle.and_events.specs.Ports.{ports_after}
 use Rattle.and_events.specs.Programming.{programmes_after}
-use Rattle.and_events.specs.State.{State, after, move_of, word_of, ports_move_of, step_of, installed_of}
+use Rattle.and_events.specs.State.{State, after, move_of, word_of, ports_move_of, step_of, installed_of, holds_after}
 use Rattle.and_events.specs.Legal.{Legal, TakesFrom}
 use Rattle.and_laws.specs.Fates.{in_hand_count}
 use Rattle.and_kept.specs.Lanes.{Roads, parcels_at, without_first}
@@ -67,7 +67,7 @@ legal_take plan s a q i may is front = record {
 }
 
 pub after_take : (plan : Plan) (s : State) (k : Kept) (a : Actor) (held : Held) → Stands k s → k.roads.settings ≡ plan.settings → held.need ≡ installed_of plan s (node_of a) → IsAfter plan s (Take a held.queue held.packet) k (record k { roads = taken k.roads a held })
-unfolding after move_of word_of ports_move_of step_of ports_after programmes_after
+unfolding after holds_after move_of word_of ports_move_of step_of ports_after programmes_after
 after_take plan s k a held st settings need =
     record {
       stands = record {
@@ -76,6 +76,7 @@ after_take plan s k a held st settings need =
         ports = st.ports;
         flow = as_kept plan s k (λ v f. flow_after f (Grab (hand_place v a) (queue_place v (node_of a) held.queue) held)) settings st.flow
             ∙ ap (λ n. flow_after s.flow (Grab (hand_place plan.settings a) (queue_place plan.settings (node_of a) held.queue) (record { packet = held.packet; need = n; queue = held.queue }))) need;
+        holds = st.holds;
       };
       settings = refl;
       limit = refl;
@@ -92,7 +93,7 @@ one_held f hand from h there =
     omega (arith, written)
 
 -- each actor that takes packets has its hand
-hand_there : (v : Settings) (a : Actor) → IsActor v a → Handles a → hand_place v a < hand_count v
+pub hand_there : (v : Settings) (a : Actor) → IsActor v a → Handles a → hand_place v a < hand_count v
 hand_there v (Worker h w) is t = let l = mul-add-lt h v.workers w v.hosts is.0 is.1 in omega (arith, l)
 hand_there v (Coproc h) is t = omega (arith, is)
 hand_there v (Gateway g) is t = omega (arith, is)

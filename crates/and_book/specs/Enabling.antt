@@ -1,31 +1,21 @@
--- Who may act, by what is kept: the conditions of the definition where nothing is held and no hairpin is made.
-use Rattle.std.specs.Prelude.{◌≡◌, ℕ, ◌+◌, ◌<◌, ◌⊎◌, List, [], length, slice_index_or, Option, Some, None, unwrap_or}
+-- Who may act, by what is kept: the conditions of the definition where no hairpin is made; those of the steps where nothing is held.
+use Rattle.std.specs.Prelude.{◌≡◌, ℕ, ◌+◌, ◌-◌, ◌<◌, ◌==◌, ◌&&◌, nat_lt, if◌then◌else◌, Bool, true, List, [], length, slice_index_or, Option, Some, None, unwrap_or}
 use Rattle.std.specs.List.{All}
 use Rattle.and_policy.specs.Owners.{place}
 use Rattle.and_events.specs.declared.event.Actor.{Actor}
 use Rattle.and_events.specs.declared.event.Actor.TheVariants.{HostInstall, GateInstall, Controller, Driver}
-use Rattle.and_events.specs.declared.event.Held.{Held}
 use Rattle.and_events.specs.declared.plan.Packet.{Packet}
 use Rattle.and_events.specs.declared.plan.Step.{Step}
 use Rattle.and_events.specs.declared.plan.Step.TheVariants.{Append, Inject, Wait, Finish}
 use Rattle.and_events.specs.declared.plan.Settings.{Settings}
-use Rattle.and_events.specs.Places.{queue_place, hand_place, node_of, IsActor}
-use Rattle.and_events.specs.Flow.{Flow, queue_at, hand_at}
+use Rattle.and_events.specs.Places.{node_count, hand_count, IsActor}
+use Rattle.and_events.specs.Flow.{Flow}
 use Rattle.and_events.specs.Programming.{Programmes, HasInstalled, programme_at, announced_at, installed_at}
-use Rattle.and_events.specs.State.{no_packet}
+use Rattle.and_events.specs.State.{NodeHolds, no_packet}
 use Rattle.and_events.specs.Legal.{added_at}
-use Rattle.and_kept.specs.Moves.{source_in}
-
--- the node at this place may announce or install
-abbrev pub CanProgramme : Programmes → ℕ → Type 0
-CanProgramme p n =
-    ((announced_at p n ≡ installed_at p n) × (announced_at p n < length (programme_at p n))) ⊎ (installed_at p n < announced_at p n)
-
--- the actor has a packet in hand, or the queue from which it takes next has one
-abbrev pub IsBusy : Settings → Flow → Actor → Type 0
-IsBusy v f a =
-    ((h : Held) × (hand_at f.hands (hand_place v a) ≡ Some h))
-    ⊎ (queue_at f.queues (queue_place v (node_of a) (source_in v f a)) ≡ [] → ⊥)
+use Rattle.and_kept.specs.Busy.{is_busy}
+use Rattle.and_kept.specs.Moves.{IsBusy}
+use Rattle.and_kept.specs.Nodes.{is_ready}
 
 -- all is installed, no packet is queued and none in hand
 pub record IsStill (p : Programmes) (f : Flow) : Type 0 where
@@ -55,12 +45,19 @@ IsInjectable packets vms (Some (Inject i)) = (i < length packets) × (vm_in pack
 IsInjectable packets vms _ = Unit {0}
 
 -- the actor may act
-abbrev pub Acts : Settings → List Packet → Programmes → Flow → Option Step → Actor → Type 0
-Acts v packets p f due (HostInstall h) = CanProgramme p h
-Acts v packets p f due (GateInstall g) = CanProgramme p (v.hosts + g)
-Acts v packets p f due Controller = ⊥
-Acts v packets p f due Driver = CanDo v packets p f due
-Acts v packets p f due a = IsBusy v f a
+abbrev pub Acts : Settings → List Packet → Programmes → NodeHolds → Flow → Option Step → Actor → Type 0
+Acts v packets p m f due (HostInstall h) = is_ready p m.install h ≡ true
+Acts v packets p m f due (GateInstall g) = is_ready p m.install (v.hosts + g) ≡ true
+Acts v packets p m f due Controller = ⊥
+Acts v packets p m f due Driver = CanDo v packets p f due
+Acts v packets p m f due a = IsBusy v f m.forward a
 
-abbrev pub CanAct : Settings → List Packet → Programmes → Flow → Option Step → Actor → Type 0
-CanAct v packets p f due a = IsActor v a × Acts v packets p f due a
+abbrev pub CanAct : Settings → List Packet → Programmes → NodeHolds → Flow → Option Step → Actor → Type 0
+CanAct v packets p m f due a = IsActor v a × Acts v packets p m f due a
+
+-- the actor of this number may act: installers by node, then those that take packets by hand, then controller and driver
+unfoldable pub acts_at : Settings → Programmes → NodeHolds → Flow → Bool → ℕ → Bool
+acts_at v p m f driver n =
+    if nat_lt n (node_count v) then is_ready p m.install n
+    else (if nat_lt n (node_count v + hand_count v) then is_busy v f.queues f.hands m.forward (n - node_count v)
+    else (driver && (n == node_count v + hand_count v + 1)))

@@ -8,7 +8,7 @@ use Rattle.and_events.specs.declared.event.Node.{Node}
 use Rattle.and_events.specs.declared.event.Queue.TheVariants.{Wire}
 use Rattle.and_events.specs.declared.plan.Plan.{Plan}
 use Rattle.and_events.specs.Places.{queue_place, seat_of, actor_of, IsNode}
-use Rattle.and_events.specs.State.{State, state}
+use Rattle.and_events.specs.State.{State, NodeHolds, state}
 use Rattle.and_events.specs.Run.{Run, past}
 use Rattle.and_events.specs.Sound.{IsSound, IsBuilt}
 use Rattle.and_laws.specs.Fates.{in_hand_count}
@@ -32,6 +32,10 @@ pub record Kept : Type 0 where
 abbrev pub kept_of : Inside → Kept
 kept_of b = record { next = b.next; progress = b.progress; ports = b.ports; roads = b.traffic; nets = b.nets.items }
 
+-- what is held at the nodes
+abbrev pub holds_of : Kept → NodeHolds
+holds_of k = record { install = k.progress.held; forward = k.roads.held }
+
 abbrev pub view_of : Inside → BookView
 view_of b = record { plan = b.plan; threads = b.threads; lines = b.lines.items; spare = vec_capacity b.lines - vec_len b.lines }
 
@@ -41,6 +45,7 @@ pub record Stands (k : Kept) (s : State) : Type 0 where
   pub programmes : k.progress.programmes ≡ s.programmes
   pub ports : k.ports ≡ s.ports
   pub flow : k.roads.flow ≡ s.flow
+  pub holds : holds_of k ≡ s.node_holds
 
 -- what never changes in it: the settings, for how many entries and VMs there is room, and the VMs' networks
 pub record IsSized (plan : Plan) (k : Kept) : Type 0 where

@@ -15,7 +15,7 @@ use Rattle.and_events.specs.declared.plan.Plan.{Plan}
 use Rattle.and_events.specs.Places.{queue_place, hand_place, node_of, capacity_at, seat_of, IsActor}
 use Rattle.and_events.specs.Flow.{Flow, queue_at, hand_at}
 use Rattle.and_events.specs.State.{State, state, packet_at, frame_at, home}
-use Rattle.and_events.specs.Legal.{forward_held}
+use Rattle.and_events.specs.Legal.{Enabled, forward_held}
 use Rattle.and_events.specs.Run.{past}
 use Rattle.and_laws.specs.Fates.{in_hand_count}
 
@@ -68,6 +68,10 @@ pub record MayTake (plan : Plan) (s : State) (a : Actor) : Type 0 where
   pub free : hand_at s.flow.hands (hand_place plan.settings a) ≡ None
   pub running : forward_held plan s (node_of a) ≡ false
   pub some : 0 < length (queue_at s.flow.queues (queue_place plan.settings (node_of a) (source_in plan.settings s.flow a)))
+
+-- no actor is enabled
+abbrev pub NoneEnabled : Plan → State → Type 0
+NoneEnabled plan s = (a : Actor) → IsActor plan.settings a → Enabled plan s a → ⊥
 
 -- the parcel has its packet's frame and source VM
 pub record IsPacket (plan : Plan) (p : ParcelView) : Type 0 where

@@ -1,65 +1,11 @@
 //! Who may act.
-ghost use Rattle.std.specs.Prelude.{◌≡◌, ◌↔◌, ◌⊎◌, ◌+◌, ◌<◌, ◌≤◌, List, [], length, Some, IsTrue};
-ghost use Rattle.and_events.specs.declared.event.Held as held;
-ghost use Rattle.and_events.specs.Flow.{queue_at, hand_at};
+ghost use Rattle.std.specs.Prelude.{◌≡◌, ℕ, ◌↔◌, ◌<◌, ◌≤◌, true, false, length, IsTrue};
 ghost use Rattle.and_events.specs.Places as places;
-ghost use Rattle.and_events.specs.Places.{node_count, IsNode, IsActor, Handles, HasQueue};
-ghost use Rattle.and_book.specs.Enabling.{CanProgramme, IsBusy, IsStill, IsKnownAtHome, CanDo, IsInjectable, CanAct, Acts, vm_in};
+ghost use Rattle.and_events.specs.Places.{node_count, IsActor};
+ghost use Rattle.and_book.specs.Enabling.{IsStill, IsKnownAtHome, CanDo, IsInjectable, CanAct, Acts, acts_at, vm_in};
 
-use and_events::{Actor, Items, Node, Packet, Queue, Step, is_actor, node_of};
+use and_events::{Actor, Items, Packet, Step, actor_count, is_actor};
 use and_kept::{Progress, Traffic};
-
-// Whether the node at a place may announce or install.
-fn can_programme(progress: &Progress, node: usize) -> bool
-    requires { node < length progress.now.programmes.ops }
-    ensures { IsTrue result ↔ CanProgramme progress.now.programmes node }
-{
-    let announced = progress.announced(node);
-    let installed = progress.installed(node);
-    let count = progress.programme(node).len();
-    (announced == installed && (announced as usize) < count) || installed < announced
-}
-
-// Whether a packet is in the actor's hand.
-fn has_hand(traffic: &Traffic, actor: Actor) -> bool
-    requires actor { IsActor traffic.now.settings actor }
-    requires handles { Handles actor }
-    ensures { IsTrue result ↔ ((h : held.Held) × (hand_at traffic.now.flow.hands (places.hand_place traffic.now.settings actor) ≡ Some h)) }
-{
-    match traffic.hand(actor) {
-        Some(_) => true,
-        None => false,
-    }
-}
-
-// Whether a packet is in the queue.
-fn has_queued(traffic: &Traffic, node: Node, queue: Queue) -> bool
-    requires node { IsNode traffic.now.settings node }
-    requires there { HasQueue node queue }
-    ensures { IsTrue result ↔ (queue_at traffic.now.flow.queues (places.queue_place traffic.now.settings node queue) ≡ [] → ⊥) }
-{
-    !traffic.is_empty(node, queue)
-}
-
-// Whether one of the two holds.
-fn either(a: bool, b: bool) -> bool
-    ensures { IsTrue result ↔ (IsTrue a ⊎ IsTrue b) }
-{
-    a || b
-}
-
-// Whether the actor has a packet in hand, or finds one in its queue.
-#[tactic(auto, using(crate::proofs::Outgoing::handles_node))]
-fn is_busy(traffic: &Traffic, actor: Actor) -> bool
-    requires actor { IsActor traffic.now.settings actor }
-    requires handles { Handles actor }
-    ensures { IsTrue result ↔ IsBusy traffic.now.settings traffic.now.flow actor }
-{
-    let queue = traffic.source(actor);
-    let has = has_hand(traffic, actor);
-    let finds = has_queued(traffic, node_of(actor), queue);
-    either(has, finds)
-}
 
 // Whether all is installed, no packet is queued and none in hand.
 fn is_still(progress: &Progress, traffic: &Traffic) -> bool
@@ -92,8 +38,8 @@ fn vm_of(packets: &Items<Packet>, packet: u32) -> u32
     }
 }
 
-// Whether the condition of the step that is due holds.
-fn can_do(
+/// Whether the condition of the step that is due holds.
+pub(crate) fn can_do(
     packets: &Items<Packet>,
     progress: &Progress,
     traffic: &Traffic,
@@ -124,21 +70,16 @@ fn acts(
     requires nodes { length progress.now.programmes.ops ≡ node_count traffic.now.settings }
     requires injectable { IsInjectable packets.now progress.now.vms due }
     requires actor { IsActor traffic.now.settings actor }
-    ensures { IsTrue result ↔ Acts traffic.now.settings packets.now progress.now.programmes traffic.now.flow due actor }
+    ensures { IsTrue result ↔ Acts traffic.now.settings packets.now progress.now.programmes (record { install = progress.now.held; forward = traffic.now.held }) traffic.now.flow due actor }
 {
     match actor {
-        Actor::HostInstall(host) => can_programme(progress, host as usize),
-        Actor::GateInstall(gateway) => {
-            can_programme(
-                progress,
-                traffic.settings().hosts as usize + gateway as usize,
-            )
-        }
+        Actor::HostInstall(host) => progress.is_ready(host),
+        Actor::GateInstall(gateway) => progress.is_ready(traffic.settings().hosts + gateway),
         Actor::Controller => false,
         Actor::Driver => can_do(packets, progress, traffic, due),
-        Actor::Worker { .. } => is_busy(traffic, actor),
-        Actor::Coproc(_) => is_busy(traffic, actor),
-        Actor::Gateway(_) => is_busy(traffic, actor),
+        Actor::Worker { .. } => traffic.is_busy(actor),
+        Actor::Coproc(_) => traffic.is_busy(actor),
+        Actor::Gateway(_) => traffic.is_busy(actor),
     }
 }
 
@@ -152,7 +93,26 @@ pub(crate) fn can_act(
 ) -> bool
     requires nodes { length progress.now.programmes.ops ≡ node_count traffic.now.settings }
     requires injectable { IsInjectable packets.now progress.now.vms due }
-    ensures { IsTrue result ↔ CanAct traffic.now.settings packets.now progress.now.programmes traffic.now.flow due actor }
+    ensures { IsTrue result ↔ CanAct traffic.now.settings packets.now progress.now.programmes (record { install = progress.now.held; forward = traffic.now.held }) traffic.now.flow due actor }
 {
     is_actor(traffic.settings(), actor) && acts(packets, progress, traffic, due, actor)
+}
+
+/// The least number of an actor that may act, where the driver does or does not; the number of actors where there is none.
+pub(crate) fn first_number(progress: &Progress, traffic: &Traffic, driver: bool) -> u32
+    requires nodes { length progress.now.programmes.ops ≡ node_count traffic.now.settings }
+    ensures within { result ≤ places.actor_count traffic.now.settings }
+    ensures acts { result < places.actor_count traffic.now.settings → acts_at traffic.now.settings progress.now.programmes (record { install = progress.now.held; forward = traffic.now.held }) traffic.now.flow driver result ≡ true }
+    ensures least { (j : ℕ) → j < result → acts_at traffic.now.settings progress.now.programmes (record { install = progress.now.held; forward = traffic.now.held }) traffic.now.flow driver j ≡ false }
+{
+    let settings = traffic.settings();
+    let count = actor_count(settings);
+    let nodes = settings.hosts + settings.gateways;
+    match progress.next_ready(0) {
+        Some(node) => node,
+        None => match traffic.next_busy(0) {
+            Some(hand) => nodes + hand,
+            None => { if driver { count - 1 } else { count } }
+        },
+    }
 }

@@ -1,13 +1,14 @@
 //! What a book tells of the state after its lines.
-ghost use Rattle.std.specs.Prelude.{◌≡◌, ◌<◌, ◌↔◌, length, IsTrue, slice_get};
+ghost use Rattle.std.specs.Prelude.{◌≡◌, ◌<◌, ◌↔◌, length, IsTrue, IfSome, IfNone, slice_get};
 ghost use Rattle.and_events.specs.Legal.{Enabled};
-ghost use Rattle.and_events.specs.Places.{IsNode};
+ghost use Rattle.and_events.specs.Ordered.{IsFirst};
+ghost use Rattle.and_events.specs.Places.{IsActor, IsNode};
 ghost use Rattle.and_events.specs.State.{programme_of, announced_of, installed_of, carried_at};
-ghost use Rattle.and_book.specs.Views.{now};
+ghost use Rattle.and_book.specs.Views.{NoneEnabled, now};
 
 use crate::book::Book;
-use crate::enabling::can_act;
-use and_events::{Actor, Carried, Node, Step, node_place};
+use crate::enabling::{can_act, can_do, first_number};
+use and_events::{Actor, Carried, Node, Step, actor_at, actor_count, node_place};
 use and_policy::Op;
 
 impl Book {
@@ -38,6 +39,28 @@ impl Book {
             self.next_step(),
             actor,
         )
+    }
+
+    /// The enabled actor with the smallest number. It takes a few steps, however long the run is.
+    pub fn first_enabled(&self) -> Option<Actor>
+        ensures actor { IfSome result (λ a. IsActor self.now.plan.settings a) }
+        ensures enabled { IfSome result (λ a. Enabled self.now.plan (now self.now) a) }
+        ensures first { IfSome result (λ a. IsFirst self.now.plan (now self.now) a) }
+        ensures none { IfNone result (NoneEnabled self.now.plan (now self.now)) }
+    {
+        let settings = self.plan.settings;
+        let driver = can_do(
+            &self.plan.packets,
+            &self.progress,
+            &self.traffic,
+            self.next_step(),
+        );
+        let number = first_number(&self.progress, &self.traffic, driver);
+        if number < actor_count(settings) {
+            Some(actor_at(settings, number))
+        } else {
+            None
+        }
     }
 
     /// The node's programme.

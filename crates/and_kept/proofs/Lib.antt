@@ -5,3 +5,7 @@ pub mod HomesLemmas
 pub mod NodesLemmas
 pub mod PortsLemmas
 pub mod MovesLemmas
+pub mod NumbersLemmas
+pub mod BusyLemmas
+pub mod BusyActors
+pub mod ReadyLemmas

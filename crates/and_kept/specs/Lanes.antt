@@ -1,12 +1,11 @@
 -- Queues of parcels, and packets on their way, as contracts see them.
-use Rattle.std.specs.Prelude.{◌≡◌, ℕ, ◌<◌, ◌≤◌, ◌^◌, Bool, false, nat_lt, List, [], ◌∷◌, ◌++◌, length, map, drop, slice_set, slice_index, slice_index_or, Option}
+use Rattle.std.specs.Prelude.{◌≡◌, ℕ, ◌<◌, ◌≤◌, ◌^◌, Bool, false, nat_lt, List, [], ◌∷◌, ◌++◌, length, map, drop, slice_set, slice_index_or}
 use Rattle.std.specs.List.{All, count_by}
 use Rattle.and_parcel.specs.Parcels.{ParcelView, QueueView}
 use Rattle.and_events.specs.declared.event.Carried.{Carried}
 use Rattle.and_events.specs.declared.event.Endpoint.TheVariants.{Host}
-use Rattle.and_events.specs.declared.event.Held.{Held}
 use Rattle.and_events.specs.declared.plan.Settings.{Settings}
-use Rattle.and_events.specs.Places.{queue_count, hand_count, capacity_at, IsSmall}
+use Rattle.and_events.specs.Places.{capacity_at, IsSmall}
 use Rattle.and_events.specs.Flow.{Flow}
 
 -- ---- queues
@@ -63,24 +62,22 @@ pub record AreEmpty (s : Settings) (n : ℕ) (qs : List QueueView) : Type 0 wher
 
 -- ---- packets on their way
 
--- the settings, where the packets are, and the parcels in the queues
+-- the settings, where the packets are, the parcels in the queues, and at which nodes forwarding is held
 pub record Roads : Type 0 where
   pub settings : Settings
   pub flow : Flow
   pub parcels : List (List ParcelView)
+  pub held : List Bool
 
 -- the hops are a TTL, and the network is a VNI
 pub record CarriedFits (c : Carried) : Type 0 where
   pub hops : c.hops < 2 ^ 8
   pub net : c.net < 2 ^ 24
 
--- the settings are in their ranges, and each queue, with its capacity, and each hand has its place
-pub record IsShaped (s : Settings) (lanes : Lanes) (held : List (Option Held)) (known : List Carried) : Type 0 where
+-- the settings are in their ranges, and so is what is known of each packet
+pub record IsShaped (s : Settings) (known : List Carried) : Type 0 where
   pub small : IsSmall s
   pub gateways : 0 < s.gateways
-  pub queues : length lanes.numbers ≡ queue_count s
-  pub hands : length held ≡ hand_count s
-  pub capacities : (q : ℕ) → q < queue_count s → slice_index lanes.capacities q ≡ capacity_at s q
   pub fits : All CarriedFits known
 
 -- a packet before its first send

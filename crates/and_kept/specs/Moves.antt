@@ -1,5 +1,5 @@
 -- What the calls of the traffic ask for, and what they make of it.
-use Rattle.std.specs.Prelude.{ℕ, ◌<◌, nat_le, nat_lt, if◌then◌else◌, Bool, length}
+use Rattle.std.specs.Prelude.{◌≡◌, ℕ, ◌<◌, ◌⊎◌, nat_le, nat_lt, if◌then◌else◌, Bool, false, List, [], length, Some, slice_index_or}
 use Rattle.and_parcel.specs.Parcels.{ParcelView}
 use Rattle.and_events.specs.declared.event.End.{End}
 use Rattle.and_events.specs.declared.event.Actor.{Actor}
@@ -9,8 +9,8 @@ use Rattle.and_events.specs.declared.event.Node.TheVariants.{Host}
 use Rattle.and_events.specs.declared.event.Queue.{Queue}
 use Rattle.and_events.specs.declared.event.Queue.TheVariants.{Out, Wire, Seal}
 use Rattle.and_events.specs.declared.plan.Settings.{Settings}
-use Rattle.and_events.specs.Flow.{Flow, Move, Grab, flow_after, carried_in, end_at, enter_by, queue_at}
-use Rattle.and_events.specs.Places.{hand_place, queue_place, capacity_at, node_of, IsActor, Handles}
+use Rattle.and_events.specs.Flow.{Flow, Move, Grab, flow_after, carried_in, end_at, enter_by, queue_at, hand_at}
+use Rattle.and_events.specs.Places.{hand_place, node_place, queue_place, capacity_at, node_of, IsActor, Handles}
 use Rattle.and_kept.specs.Outers.{parcels_moved}
 use Rattle.and_kept.specs.declared.traffic.Holder.{Holder}
 use Rattle.and_kept.specs.Lanes.{Roads, with_parcel, without_first}
@@ -44,6 +44,12 @@ abbrev pub source_in : Settings → Flow → Actor → Queue
 source_in s f (Worker h w) = if nat_lt 0 (length (queue_at f.queues (queue_place s (Host h) Wire))) then Wire else Out
 source_in s f (Coproc h) = Seal
 source_in s f _ = Wire
+
+-- the actor has a packet in hand, or finds one in the queue from which it takes next, where forwarding is not held at its node
+abbrev pub IsBusy : Settings → Flow → List Bool → Actor → Type 0
+IsBusy s f held a =
+    ((h : Held) × (hand_at f.hands (hand_place s a) ≡ Some h))
+    ⊎ ((slice_index_or held (node_place s (node_of a)) false ≡ false) × (queue_at f.queues (queue_place s (node_of a) (source_in s f a)) ≡ [] → ⊥))
 
 abbrev pub source_place : Roads → Actor → ℕ
 source_place t a = queue_place t.settings (node_of a) (source_in t.settings t.flow a)

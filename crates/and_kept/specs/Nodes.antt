@@ -1,13 +1,14 @@
 -- A node's programme, and all nodes', as contracts see them.
-use Rattle.std.specs.Prelude.{◌≡◌, ℕ, ◌+◌, ◌-◌, ◌<◌, ◌≤◌, ◌^◌, ◌==◌, not, Bool, List, [], ◌∷◌, ◌++◌, length, map, Option, None, slice_index_or}
+use Rattle.std.specs.Prelude.{◌≡◌, ℕ, ◌+◌, ◌-◌, ◌<◌, ◌≤◌, ◌^◌, ◌==◌, ◌&&◌, ◌||◌, nat_lt, not, Bool, false, List, [], ◌∷◌, ◌++◌, length, map, Option, None, slice_index_or}
 use Rattle.std.specs.List.{All, count_by}
 use Rattle.and_policy.specs.declared.entry.Entry.{Entry}
 use Rattle.and_policy.specs.declared.entry.Op.{Op}
 use Rattle.and_policy.specs.declared.entry.Op.TheVariants as ops
 use Rattle.and_policy.specs.Owners.{place}
 use Rattle.and_policy.specs.Programmes.{entries, prefix}
-use Rattle.and_events.specs.Programming.{Programmes}
+use Rattle.and_events.specs.Programming.{Programmes, programme_at, announced_at, installed_at}
 use Rattle.and_events.specs.Legal.{added_at}
+use Rattle.and_kept.specs.Numbers.{Numbers, has}
 
 -- ---- one node
 
@@ -56,7 +57,7 @@ pub record IsHomes (h : HomesView) (log : List Entry) : Type 0 where
 -- ---- all nodes
 
 -- the log and the programmes, how many entries the log has room for, and of how many VMs it is kept where they are
-pub record Progressed : Type 0 where
+pub record NodesView : Type 0 where
   pub programmes : Programmes
   pub limit : ℕ
   pub vms : ℕ
@@ -79,3 +80,26 @@ pub record IsProgress (log : List Entry) (nodes : List Programmed) (homes : Home
   pub logged : length log ≤ limit
   pub reserved : limit ≤ capacity
   pub small : limit < 2 ^ 32
+
+-- ---- who may announce or install
+
+-- the log and the programmes, how many entries the log has room for, of how many VMs it is kept where they are, and at which
+-- nodes installs are held
+pub record Progressed : Type 0 where
+  pub programmes : Programmes
+  pub limit : ℕ
+  pub vms : ℕ
+  pub held : List Bool
+
+-- the installer of the node at this place may announce, or has announced something that is not installed
+unfoldable pub is_ready : Programmes → List Bool → ℕ → Bool
+is_ready p held n =
+    nat_lt (installed_at p n) (announced_at p n)
+    || (not (slice_index_or held n false) && ((announced_at p n == installed_at p n) && nat_lt (announced_at p n) (length (programme_at p n))))
+
+-- each node has its mark, and the set tells whose installers may act
+pub record AreReadied (p : Programmes) (marks : List Bool) (ready : Numbers) : Type 0 where
+  pub few : length p.ops < 2 ^ 16
+  pub held : length marks ≡ length p.ops
+  pub size : ready.size ≡ length p.ops
+  pub told : (k : ℕ) → k < length p.ops → has ready k ≡ is_ready p marks k

@@ -1,15 +1,13 @@
 -- The outer headers that a send gives a parcel.
-use Rattle.std.specs.Prelude.{◌≡◌, ℕ, ◌==◌, false, if◌then◌else◌, List, [], ◌∷◌, Option, Some, None}
+use Rattle.std.specs.Prelude.{ℕ, false, List}
 use Rattle.and_policy.specs.declared.packet.Tuple.{Tuple}
 use Rattle.and_policy.specs.FlowHash.{flow_hash}
 use Rattle.and_policy.specs.Outer.{outer_header, entropy_port}
-use Rattle.and_parcel.specs.Parcels.{ParcelView, wire_of}
+use Rattle.and_parcel.specs.Parcels.{ParcelView}
 use Rattle.and_events.specs.declared.event.Node.{Node}
 use Rattle.and_events.specs.declared.event.Endpoint.{Endpoint}
-use Rattle.and_events.specs.declared.event.Event.{Event}
-use Rattle.and_events.specs.declared.plan.Plan.{Plan}
 use Rattle.and_events.specs.Flow.{Move, Send, SealLater}
-use Rattle.and_events.specs.OuterPackets.{Sent, sent_by, sent_bytes, source_address, endpoint_address}
+use Rattle.and_events.specs.OuterPackets.{source_address, endpoint_address}
 use Rattle.and_kept.specs.Lanes.{with_parcel}
 
 -- the parcel with the outer headers of a send: from which node, the tuple, the hops left, the network, and whereto

@@ -1,5 +1,5 @@
 -- What becomes of a packet in hand, by what is decided of it.
-use Rattle.std.specs.Prelude.{◌≡◌, ℕ, ◌<◌, ◌^◌, Bool, true, false, List}
+use Rattle.std.specs.Prelude.{ℕ, ◌<◌, ◌^◌, Bool, true, false, List}
 use Rattle.and_policy.specs.declared.decision.Dest.{Dest}
 use Rattle.and_policy.specs.declared.decision.Leaving.{Leaving}
 use Rattle.and_policy.specs.declared.decision.Leaving.TheVariants as leavings
@@ -10,19 +10,12 @@ use Rattle.and_policy.specs.declared.decision.Located.{Located}
 use Rattle.and_policy.specs.declared.decision.Located.TheVariants as locateds
 use Rattle.and_policy.specs.declared.decision.GateDecision.{GateDecision}
 use Rattle.and_policy.specs.declared.decision.GateDecision.TheVariants as decisions
-use Rattle.and_policy.specs.declared.decision.Decision.{Decision}
 use Rattle.and_policy.specs.declared.decision.Landing.{Landing}
 use Rattle.and_policy.specs.declared.decision.Landing.TheVariants as landings
-use Rattle.and_policy.specs.declared.decision.Outcome.{Outcome}
-use Rattle.and_policy.specs.declared.decision.Outcome.TheVariants as outcomes
-use Rattle.and_policy.specs.declared.decision.Way.{Way}
 use Rattle.and_policy.specs.declared.packet.Tuple.{Tuple}
 use Rattle.and_policy.specs.declared.port.Port.{Port}
 use Rattle.and_policy.specs.declared.port.Port.TheVariants as port_states
 use Rattle.and_policy.specs.FlowHash.{gateway_of}
-use Rattle.and_policy.specs.Ingress.{landing}
-use Rattle.and_policy.specs.Owners.{routed, located}
-use Rattle.and_policy.specs.Programmes.{leaving}
 use Rattle.and_events.specs.declared.event.Actor.{Actor}
 use Rattle.and_events.specs.declared.event.Arrival.{Arrival}
 use Rattle.and_events.specs.declared.event.Arrival.TheVariants as arrivals
@@ -33,20 +26,18 @@ use Rattle.and_events.specs.declared.event.End.TheVariants as ends
 use Rattle.and_events.specs.declared.event.Endpoint.{Endpoint}
 use Rattle.and_events.specs.declared.event.Endpoint.TheVariants as endpoints
 use Rattle.and_events.specs.declared.event.Event.{Event}
-use Rattle.and_events.specs.declared.event.Event.TheVariants.{Egress, Route, Redirect, Ingress}
+use Rattle.and_events.specs.declared.event.Event.TheVariants.{Route, Redirect}
 use Rattle.and_events.specs.declared.event.Node.{Node}
 use Rattle.and_events.specs.declared.event.Passage.{Passage}
 use Rattle.and_events.specs.declared.event.Passage.TheVariants as passages
-use Rattle.and_events.specs.declared.event.Queue.TheVariants.{Out, Wire, Seal}
+use Rattle.and_events.specs.declared.event.Queue.TheVariants.{Wire, Seal}
 use Rattle.and_events.specs.declared.event.Return.{Return}
 use Rattle.and_events.specs.declared.event.Return.TheVariants as returns
-use Rattle.and_events.specs.declared.plan.Plan.{Plan}
 use Rattle.and_events.specs.declared.plan.Settings.{Settings}
-use Rattle.and_events.specs.Places.{queue_place, capacity_at, node_of, IsNode, IsWorker, IsGatewayWorker}
+use Rattle.and_events.specs.Places.{queue_place, capacity_at, IsNode}
 use Rattle.and_events.specs.Flow.{Flow, Move, carried_in, end_at, end_of_send}
-use Rattle.and_events.specs.State.{State, node_at, dest_endpoint, dest_net, passes, goes_back, carried_at, packet_at, tuple_at, programme_of, host_of}
+use Rattle.and_events.specs.State.{node_at, dest_endpoint, dest_net, passes, goes_back}
 use Rattle.and_events.specs.Ports.{port_at}
-use Rattle.and_events.specs.Legal.{Decides, entries_at, IsRouteTarget, IsRedirectTarget}
 
 -- ---- sends
 

@@ -6,15 +6,20 @@
 //! contracts see after it is what the definition makes of what they saw before it.
 //!
 //! Counts of what is not empty, not free or not installed are kept beside the parts, so that no question about all of
-//! them takes a pass. No call but `make` takes memory.
+//! them takes a pass; and so are the set of the nodes whose installers may act and the set of the hands that have work. A set
+//! is looked at a word of 64 numbers at a time. No call but `make` takes memory.
 //!
 //! It stands on `and_events`, whose components these are, on `and_parcel` for the parcels, and on `and_policy` for the
 //! entries of the log.
 #![tactic(auto)]
 
+mod busy;
 mod count;
+mod hall;
 mod hands;
 mod homes;
+mod nodes;
+mod numbers;
 mod outers;
 mod ports;
 mod programme;
@@ -23,9 +28,8 @@ mod queues;
 mod settling;
 mod traffic;
 
-pub use hands::Hands;
+pub use numbers::NumberSet;
 pub use ports::PortTable;
 pub use progress::Progress;
-pub use queues::Queues;
 pub use settling::{settle_gate, settle_landing, settle_leaving};
 pub use traffic::{Holder, Traffic};

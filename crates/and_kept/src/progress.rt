@@ -1,70 +1,91 @@
-//! The log and the nodes' programmes.
-ghost use Rattle.std.specs.Prelude.{◌≡◌, ℕ, ◌+◌, ◌-◌, ◌<◌, ◌≤◌, ◌↔◌, ◌^◌, List, [], ◌∷◌, ◌++◌, length, map, true, IsTrue, IfOk, replicate, slice_set};
-ghost use Rattle.std.specs.List.{All};
-ghost use Rattle.and_policy.specs.Owners as owners;
-ghost use Rattle.and_events.specs.Programming.{Logs, Announces, Installs, HasInstalled, programmes_after, programme_at, announced_at, installed_at};
+//! The log and the nodes' programmes, and whose installers may act.
+ghost use Rattle.std.specs.Prelude.{◌≡◌, ℕ, ◌<◌, ◌≤◌, ◌⊎◌, ◌↔◌, ◌^◌, [], length, true, false, IsTrue, IfOk, IfSome, IfNone, replicate, slice_set};
 ghost use Rattle.and_events.specs.Legal as legal;
-ghost use Rattle.and_kept.specs.Nodes.{Programmed, with_entry, is_behind, node_at};
+ghost use Rattle.and_events.specs.Programming.{Logs, Announces, Installs, HasInstalled, programmes_after, programme_at, announced_at, installed_at};
+ghost use Rattle.and_kept.specs.Nodes as spec;
+ghost use Rattle.and_kept.specs.Numbers.{has};
+ghost use Rattle.and_policy.specs.Owners as owners;
 
-use crate::count::one_if;
-use crate::homes::Homes;
-use crate::programme::Programme;
+use crate::count::no_marks;
+use crate::nodes::Nodes;
+use crate::numbers::NumberSet;
 use and_policy::{Entry, NoMemory, Op};
 use std::alloc::Global;
 use std::marker::Model;
 
-/// The log, and each node's programme with how much of it is announced and installed. Nodes go by their places.
+/// The log, and each node's programme with how much of it is announced and installed; at which nodes installs are held; and
+/// the set of the nodes whose installers may act, which is kept where one of these changes. Nodes go by their places.
 ///
-/// Contracts see it as the definition's component, beside the number of entries that the log has room for and the number
+/// Contracts see it as the definition's components, beside the number of entries that the log has room for and the number
 /// of VMs of which it is kept where they are.
 #[derive(Drop)]
 pub struct Progress {
-    log: Vec<Entry>,
-    nodes: Vec<Programme>,
-    homes: Homes,
-    behind: usize,
-    limit: u32,
+    nodes: Nodes,
+    held: Vec<bool>,
+    ready: NumberSet,
 }
 
 impl Model for Progress {
-    ghost use Rattle.std.specs.Prelude.{length, vec_capacity};
-    ghost use Rattle.and_kept.specs.Nodes.{Progressed, programmes_of, IsProgress};
+    ghost use Rattle.and_kept.specs.Nodes.{Progressed, AreReadied};
 
     ghost Value = { Progressed };
 
-    ghost view = { λ p. record { programmes = programmes_of p.log.items p.nodes.items; limit = p.limit; vms = length p.homes.added } };
+    ghost view = { λ p. record { programmes = p.nodes.programmes; limit = p.nodes.limit; vms = p.nodes.vms; held = p.held.items } };
 
-    ghost invariant = { λ p. IsProgress p.log.items p.nodes.items p.homes p.behind p.limit (vec_capacity p.log) };
+    ghost invariant = { λ p. AreReadied p.nodes.programmes p.held.items p.ready };
 }
 
-#[tactic(auto, unfolding(and_events::specs::Programming::programmes_after))]
+// Whether the node's installer may announce or install.
+#[tactic(auto, unfolding(crate::specs::Nodes::is_ready))]
+fn is_ready(nodes: &Nodes, held: &Vec<bool>, node: u32) -> bool
+    requires node { node < length nodes.now.programmes.ops }
+    requires held { length held.now.items ≡ length nodes.now.programmes.ops }
+    ensures { result ≡ spec.is_ready nodes.now.programmes held.now.items node }
+{
+    let place = node as usize;
+    let announced = nodes.announced(place);
+    let installed = nodes.installed(place);
+    let count = nodes.programme(place).len();
+    installed < announced
+        || (!held[place] && (announced == installed && (announced as usize) < count))
+}
+
+// Looks again at the nodes from `range.0` on and below `range.1`.
+fn refresh(nodes: &Nodes, held: &Vec<bool>, ready: &mut NumberSet, range: (u32, u32))
+    requires held { length held.now.items ≡ length nodes.now.programmes.ops }
+    requires size { ready.old.size ≡ length nodes.now.programmes.ops }
+    requires high { range.1 ≤ length nodes.now.programmes.ops }
+    ensures size { ready.new.size ≡ ready.old.size }
+    ensures told { (k : ℕ) → k < length nodes.now.programmes.ops → ((range.0 ≤ k) × (k < range.1)) ⊎ (has ready.old k ≡ spec.is_ready nodes.now.programmes held.now.items k) → has ready.new k ≡ spec.is_ready nodes.now.programmes held.now.items k }
+{
+    for node in range.0..range.1 {
+        ready.put(node, is_ready(nodes, held, node));
+    }
+}
+
 impl Progress {
-    /// An empty log with room for `limit` entries, so many nodes with empty programmes, and so many VMs. All memory is
-    /// taken here.
+    /// An empty log with room for `limit` entries, so many nodes with empty programmes, and so many VMs; nothing is held. All
+    /// memory is taken here.
     pub fn make(alloc: Global, nodes: usize, limit: u32, vms: usize) -> Result<Progress, NoMemory>
+        requires { nodes < 2 ^ 16 }
         ensures programmes { IfOk result (λ p. p.programmes ≡ record { log = []; ops = replicate nodes []; announced = replicate nodes 0; installed = replicate nodes 0 }) }
         ensures limit { IfOk result (λ p. p.limit ≡ limit) }
         ensures vms { IfOk result (λ p. p.vms ≡ vms) }
+        ensures held { IfOk result (λ p. p.held ≡ replicate nodes false) }
     {
-        let Ok(log) = Vec::with_capacity(alloc, limit as usize) else {
-            return Err(NoMemory);
-        };
-        let homes = Homes::make(alloc, vms)?;
-        let nodes = make_nodes(alloc, nodes, limit)?;
-        Ok(Progress {
-            log,
-            nodes,
-            homes,
-            behind: 0,
-            limit,
-        })
+        let held = no_marks(alloc, nodes)?;
+        let mut ready = NumberSet::make(alloc, nodes as u32)?;
+        let count = nodes as u32;
+        let nodes = Nodes::make(alloc, nodes, limit, vms)?;
+        refresh(&nodes, &held, &mut ready, (0, count));
+        Ok(Progress { nodes, held, ready })
     }
 
     /// The log.
     pub fn log(&self) -> &[Entry]
         ensures { result.now ≡ self.now.programmes.log }
     {
-        self.log.as_slice()
+        self.nodes.log()
     }
 
     /// The node's programme.
@@ -72,8 +93,7 @@ impl Progress {
         requires { node < length self.now.programmes.ops }
         ensures { result.now ≡ programme_at self.now.programmes node }
     {
-        let node = &self.nodes[node];
-        node.ops()
+        self.nodes.programme(node)
     }
 
     /// How much of it is announced.
@@ -81,8 +101,7 @@ impl Progress {
         requires { node < length self.now.programmes.ops }
         ensures { result ≡ announced_at self.now.programmes node }
     {
-        let node = &self.nodes[node];
-        node.announced()
+        self.nodes.announced(node)
     }
 
     /// How much of it is installed.
@@ -90,8 +109,7 @@ impl Progress {
         requires { node < length self.now.programmes.ops }
         ensures { result ≡ installed_at self.now.programmes node }
     {
-        let node = &self.nodes[node];
-        node.installed()
+        self.nodes.installed(node)
     }
 
     /// Whether the node has installed the log entry of this number, from 1.
@@ -99,8 +117,7 @@ impl Progress {
         requires { node < length self.now.programmes.ops }
         ensures { IsTrue result ↔ HasInstalled self.now.programmes node number }
     {
-        let node = &self.nodes[node];
-        number <= node.entries_installed()
+        self.nodes.has_installed(node, number)
     }
 
     /// Whether each node has installed its whole programme.
@@ -108,7 +125,7 @@ impl Progress {
         ensures { IsTrue result ↔ ((n : ℕ) → n < length self.now.programmes.ops
             → installed_at self.now.programmes n ≡ length (programme_at self.now.programmes n)) }
     {
-        self.behind == 0
+        self.nodes.all_installed()
     }
 
     /// The number of the log entry that added the VM, from 1.
@@ -116,7 +133,7 @@ impl Progress {
         requires { vm < self.now.vms }
         ensures { result ≡ legal.added_at self.now.programmes.log vm }
     {
-        self.homes.added(vm as usize)
+        self.nodes.added(vm)
     }
 
     /// The host where the VM is under the log.
@@ -124,7 +141,27 @@ impl Progress {
         requires { vm < self.now.vms }
         ensures { result ≡ owners.place self.now.programmes.log vm }
     {
-        self.homes.place(vm as usize)
+        self.nodes.place(vm)
+    }
+
+    /// Whether the node's installer may announce or install.
+    pub fn is_ready(&self, node: u32) -> bool
+        requires { node < length self.now.programmes.ops }
+        ensures { result ≡ spec.is_ready self.now.programmes self.now.held node }
+    {
+        self.ready.has(node)
+    }
+
+    /// The first node whose installer may announce or install, of those from `from` on.
+    pub fn next_ready(&self, from: u32) -> Option<u32>
+        requires { from ≤ length self.now.programmes.ops }
+        ensures there { IfSome result (λ k. k < length self.now.programmes.ops) }
+        ensures past { IfSome result (λ k. from ≤ k) }
+        ensures ready { IfSome result (λ k. spec.is_ready self.now.programmes self.now.held k ≡ true) }
+        ensures least { IfSome result (λ k. (j : ℕ) → from ≤ j → j < k → spec.is_ready self.now.programmes self.now.held j ≡ false) }
+        ensures none { IfNone result ((j : ℕ) → from ≤ j → j < length self.now.programmes.ops → spec.is_ready self.now.programmes self.now.held j ≡ false) }
+    {
+        self.ready.next(from)
     }
 
     /// The log and each programme get an entry.
@@ -133,12 +170,11 @@ impl Progress {
         ensures programmes { self.new.programmes ≡ programmes_after self.old.programmes (Logs entry) }
         ensures limit { self.new.limit ≡ self.old.limit }
         ensures vms { self.new.vms ≡ self.old.vms }
+        ensures held { self.new.held ≡ self.old.held }
     {
-        push_all(&mut self.nodes, entry);
-        self.behind = self.nodes.len();
-        self.log.push_reserved(entry);
-        let number = self.log.len() as u32;
-        self.homes.note(entry, number);
+        self.nodes.append(entry);
+        let count = self.held.len() as u32;
+        refresh(&self.nodes, &self.held, &mut self.ready, (0, count));
     }
 
     /// The node announces how long its programme is.
@@ -148,8 +184,16 @@ impl Progress {
         ensures programmes { self.new.programmes ≡ programmes_after self.old.programmes (Announces node result) }
         ensures limit { self.new.limit ≡ self.old.limit }
         ensures vms { self.new.vms ≡ self.old.vms }
+        ensures held { self.new.held ≡ self.old.held }
     {
-        announce_at(&mut self.nodes, node)
+        let upto = self.nodes.announce(node);
+        refresh(
+            &self.nodes,
+            &self.held,
+            &mut self.ready,
+            (node as u32, node as u32 + 1),
+        );
+        upto
     }
 
     /// The node has installed what it announced.
@@ -159,79 +203,29 @@ impl Progress {
         ensures programmes { self.new.programmes ≡ programmes_after self.old.programmes (Installs node result) }
         ensures limit { self.new.limit ≡ self.old.limit }
         ensures vms { self.new.vms ≡ self.old.vms }
+        ensures held { self.new.held ≡ self.old.held }
     {
-        let was_behind = is_behind_at(&self.nodes, node);
-        let upto = install_at(&mut self.nodes, node);
-        let now_behind = is_behind_at(&self.nodes, node);
-        self.behind = self.behind - one_if(was_behind) + one_if(now_behind);
+        let upto = self.nodes.install(node);
+        refresh(
+            &self.nodes,
+            &self.held,
+            &mut self.ready,
+            (node as u32, node as u32 + 1),
+        );
         upto
     }
-}
 
-// So many empty programmes with room for so many operations.
-fn make_nodes(alloc: Global, count: usize, limit: u32) -> Result<Vec<Programme>, NoMemory>
-    ensures { IfOk result (λ nodes. nodes.items ≡ replicate count (record { ops = []; announced = 0; installed = 0; limit = limit })) }
-{
-    let mut nodes: Vec<Programme> = Vec::new(alloc);
-    for _node in 0..count {
-        let node = Programme::make(alloc, limit)?;
-        if nodes.push(node).is_err() {
-            return Err(NoMemory);
-        }
+    /// Installs are held at the node, or are not.
+    pub fn hold(&mut self, node: usize, on: bool)
+        requires { node < length self.old.programmes.ops }
+        ensures { self.new ≡ record self.old { held = slice_set self.old.held node on } }
+    {
+        self.held[node] = on;
+        refresh(
+            &self.nodes,
+            &self.held,
+            &mut self.ready,
+            (node as u32, node as u32 + 1),
+        );
     }
-    Ok(nodes)
-}
-
-// Each programme gets the entry.
-fn push_all(nodes: &mut Vec<Programme>, entry: Entry)
-    requires { All (λ n. length n.ops < n.limit) nodes.old.items }
-    ensures nodes { nodes.new.items ≡ map (with_entry entry) nodes.old.items }
-    ensures behind { All (λ n. is_behind n ≡ true) nodes.new.items }
-{
-    let count = nodes.len();
-    for node in 0..count {
-        push_at(nodes, node, entry);
-    }
-}
-
-// The node's programme gets the entry.
-fn push_at(nodes: &mut Vec<Programme>, node: usize, entry: Entry)
-    requires node { node < length nodes.old.items }
-    requires room { length (node_at nodes.old.items node).ops < (node_at nodes.old.items node).limit }
-    ensures nodes { nodes.new.items ≡ slice_set nodes.old.items node (with_entry entry (node_at nodes.old.items node)) }
-    ensures behind { is_behind (node_at nodes.new.items node) ≡ true }
-{
-    let programme = &mut nodes[node];
-    programme.push(entry);
-}
-
-// Whether not all of the node's programme is installed.
-fn is_behind_at(nodes: &[Programme], node: usize) -> bool
-    requires { node < length nodes.now }
-    ensures { result ≡ is_behind (node_at nodes.now node) }
-{
-    let entry = &nodes[node];
-    entry.is_behind()
-}
-
-// The node announces its whole programme, and how long that is.
-fn announce_at(nodes: &mut Vec<Programme>, node: usize) -> u32
-    requires { node < length nodes.old.items }
-    ensures upto { result ≡ length (node_at nodes.old.items node).ops }
-    ensures nodes { let n = node_at nodes.old.items node in nodes.new.items ≡ slice_set nodes.old.items node (record n { announced = length n.ops }) }
-{
-    let entry = &mut nodes[node];
-    entry.announce();
-    entry.announced()
-}
-
-// The node has installed what it announced, and how much that is.
-fn install_at(nodes: &mut Vec<Programme>, node: usize) -> u32
-    requires { node < length nodes.old.items }
-    ensures upto { result ≡ (node_at nodes.old.items node).announced }
-    ensures nodes { let n = node_at nodes.old.items node in nodes.new.items ≡ slice_set nodes.old.items node (record n { installed = n.announced }) }
-{
-    let entry = &mut nodes[node];
-    entry.install();
-    entry.installed()
 }

@@ -1,23 +1,23 @@
 //! Packets on their way.
-ghost use Rattle.std.specs.Prelude.{◌≡◌, ◌<◌, ◌↔◌, ◌^◌, [], length, IsTrue, IfOk, None, Some, replicate, slice_get, slice_set};
+ghost use Rattle.std.specs.Prelude.{◌≡◌, ℕ, ◌<◌, ◌≤◌, ◌↔◌, ◌^◌, [], length, true, false, IfSome, IfNone, IsTrue, IfOk, None, Some, replicate, slice_get, slice_set};
 ghost use Rattle.std.specs.List.{All};
 ghost use Rattle.and_events.specs.Flow.{Stop, carried_in, flow_after, hand_at, queue_at, seal_by, sent, to_be_sealed};
 ghost use Rattle.and_events.specs.declared.event.Queue.TheVariants.{Seal};
 ghost use Rattle.and_events.specs.Places as places;
-ghost use Rattle.and_events.specs.Places.{queue_count, hand_count, IsActor, IsNode, Handles, HasQueue};
+ghost use Rattle.and_events.specs.Places.{node_count, queue_count, hand_count, IsActor, IsNode, Handles, HasQueue};
 ghost use Rattle.and_events.specs.State as states;
 ghost use Rattle.and_kept.specs.Settling.{end_to};
 ghost use Rattle.and_events.specs.Places.{IsSmall};
 ghost use Rattle.and_policy.specs.FlowHash.{gateway_of};
+ghost use Rattle.and_kept.specs.Busy.{is_busy};
 ghost use Rattle.and_kept.specs.Lanes.{CarriedFits, parcels_at, unsent};
-ghost use Rattle.and_kept.specs.Moves.{MayMove, end_here, entered, finds_full_at, hand_of, moved, seal_of, source_in, source_place, taken};
+ghost use Rattle.and_kept.specs.Moves.{IsBusy, MayMove, end_here, entered, finds_full_at, hand_of, moved, seal_of, source_in, source_place, taken};
 
-use crate::hands::Hands;
+use crate::hall::Hall;
 use crate::outers::wrap_to;
-use crate::queues::Queues;
 use and_events::{
     Actor, Carried, End, Endpoint, Held, Node, Queue, Settings, hand_place, node_at, node_of,
-    queue_place,
+    node_place, queue_place,
 };
 use and_parcel::Parcel;
 use and_policy::{NoMemory, Tuple, flow_hash};
@@ -38,9 +38,7 @@ pub struct Holder {
 /// takes is the actor's until it is sent on or let go.
 #[derive(Drop)]
 pub struct Traffic {
-    settings: Settings,
-    queues: Queues,
-    hands: Hands,
+    hall: Hall,
     carried: Vec<Carried>,
 }
 
@@ -50,12 +48,13 @@ impl Model for Traffic {
     ghost Value = { Roads };
 
     ghost view = { λ t. record {
-      settings = t.settings;
-      flow = record { queues = t.queues.numbers; hands = t.hands; carried = t.carried.items };
-      parcels = t.queues.parcels;
+      settings = t.hall.settings;
+      flow = record { queues = t.hall.queues; hands = t.hall.hands; carried = t.carried.items };
+      parcels = t.hall.parcels;
+      held = t.hall.held;
     } };
 
-    ghost invariant = { λ t. IsShaped t.settings t.queues t.hands t.carried.items };
+    ghost invariant = { λ t. IsShaped t.hall.settings t.carried.items };
 }
 
 #[tactic(auto, unfolding(and_events::specs::Flow::flow_after))]
@@ -73,12 +72,10 @@ impl Traffic {
             carried = replicate packets (unsent settings);
           };
           parcels = replicate (queue_count settings) [];
+          held = replicate (node_count settings) false;
         }) }
     {
-        let queues = Queues::make(alloc, settings)?;
-        let hosts = settings.hosts as usize;
-        let count = hosts * settings.workers as usize + hosts + settings.gateways as usize;
-        let hands = Hands::make(alloc, count)?;
+        let hall = Hall::make(alloc, settings)?;
         let new = Carried {
             hops: settings.hop_limit,
             sealed: false,
@@ -86,21 +83,17 @@ impl Traffic {
             target: Endpoint::Host(0),
         };
         match vec![in alloc; new; packets] {
-            Ok(carried) => Ok(Traffic {
-                settings,
-                queues,
-                hands,
-                carried,
-            }),
+            Ok(carried) => Ok(Traffic { hall, carried }),
             Err(_) => Err(NoMemory),
         }
     }
 
     /// The settings.
     pub fn settings(&self) -> Settings
-        ensures { result ≡ self.now.settings }
+        ensures is { result ≡ self.now.settings }
+        ensures small { IsSmall result }
     {
-        self.settings
+        self.hall.settings()
     }
 
     /// Whether the queue is empty.
@@ -109,22 +102,22 @@ impl Traffic {
         requires there { HasQueue node queue }
         ensures { IsTrue result ↔ (queue_at self.now.flow.queues (places.queue_place self.now.settings node queue) ≡ []) }
     {
-        self.queues
-            .is_empty(queue_place(self.settings, node, queue))
+        self.hall
+            .is_empty(queue_place(self.hall.settings(), node, queue))
     }
 
     /// Whether all queues are empty.
     pub fn all_empty(&self) -> bool
         ensures { IsTrue result ↔ All (λ q. q ≡ []) self.now.flow.queues }
     {
-        self.queues.are_empty()
+        self.hall.all_empty()
     }
 
     /// Whether no actor has a packet in hand.
     pub fn all_free(&self) -> bool
         ensures { IsTrue result ↔ All (λ h. h ≡ None) self.now.flow.hands }
     {
-        self.hands.are_empty()
+        self.hall.all_free()
     }
 
     /// What is in the actor's hand.
@@ -133,7 +126,7 @@ impl Traffic {
         requires handles { Handles actor }
         ensures { result ≡ hand_at self.now.flow.hands (places.hand_place self.now.settings actor) }
     {
-        self.hands.at(hand_place(self.settings, actor))
+        self.hall.hand(hand_place(self.hall.settings(), actor))
     }
 
     /// The queue from which the actor takes next.
@@ -156,12 +149,43 @@ impl Traffic {
         }
     }
 
+    /// Whether the actor has a packet in hand, or finds one in its queue where forwarding is not held at its node.
+    #[tactic(auto, using(crate::proofs::BusyActors::busy_is))]
+    pub fn is_busy(&self, actor: Actor) -> bool
+        requires actor { IsActor self.now.settings actor }
+        requires handles { Handles actor }
+        ensures { IsTrue result ↔ IsBusy self.now.settings self.now.flow self.now.held actor }
+    {
+        self.hall
+            .is_busy(hand_place(self.hall.settings(), actor) as u32)
+    }
+
+    /// The place of the first hand that has work, of those from `from` on.
+    pub fn next_busy(&self, from: u32) -> Option<u32>
+        requires { from ≤ hand_count self.now.settings }
+        ensures there { IfSome result (λ k. k < hand_count self.now.settings) }
+        ensures past { IfSome result (λ k. from ≤ k) }
+        ensures busy { IfSome result (λ k. is_busy self.now.settings self.now.flow.queues self.now.flow.hands self.now.held k ≡ true) }
+        ensures least { IfSome result (λ k. (j : ℕ) → from ≤ j → j < k → is_busy self.now.settings self.now.flow.queues self.now.flow.hands self.now.held j ≡ false) }
+        ensures none { IfNone result ((j : ℕ) → from ≤ j → j < hand_count self.now.settings → is_busy self.now.settings self.now.flow.queues self.now.flow.hands self.now.held j ≡ false) }
+    {
+        self.hall.next(from)
+    }
+
+    /// Forwarding is held at the node, or is not.
+    pub fn hold(&mut self, node: Node, on: bool)
+        requires { IsNode self.old.settings node }
+        ensures { self.new ≡ record self.old { held = slice_set self.old.held (places.node_place self.old.settings node) on } }
+    {
+        self.hall.hold(node_place(self.hall.settings(), node), on);
+    }
+
     /// The gateway of a flow.
     pub fn gateway(&self, tuple: &Tuple) -> u32
         ensures is { result ≡ gateway_of self.now.settings.gateways tuple.now }
         ensures there { result < self.now.settings.gateways }
     {
-        u32::from(flow_hash(tuple)) % self.settings.gateways
+        u32::from(flow_hash(tuple)) % self.hall.settings().gateways
     }
 
     /// What is known of the packet.
@@ -179,8 +203,8 @@ impl Traffic {
         ensures full { result ≡ finds_full_at self.old host }
         ensures entered { self.new ≡ entered self.old host parcel result }
     {
-        let queue = queue_place(self.settings, Node::Host(host), Queue::Out);
-        self.queues.push(queue, parcel)
+        let queue = queue_place(self.hall.settings(), Node::Host(host), Queue::Out);
+        self.hall.enter(queue, parcel)
     }
 
     /// The actor takes the first parcel of its queue.
@@ -193,16 +217,11 @@ impl Traffic {
         ensures parcel { slice_get (parcels_at self.old.parcels (source_place self.old actor)) 0 ≡ Some result.1 }
         ensures taken { self.new ≡ taken self.old actor result.0 }
     {
+        let settings = self.hall.settings();
         let queue = self.source(actor);
-        let from = queue_place(self.settings, node_of(actor), queue);
-        let parcel = self.queues.pop(from);
-        let held = Held {
-            packet: parcel.packet(),
-            need,
-            queue,
-        };
-        self.hands.fill(hand_place(self.settings, actor), held);
-        (held, parcel)
+        let from = queue_place(settings, node_of(actor), queue);
+        self.hall
+            .take(hand_place(settings, actor), from, need, queue)
     }
 
     /// The holder lets its packet go.
@@ -210,7 +229,8 @@ impl Traffic {
         requires may { MayMove self.old from parcel }
         ensures { self.new ≡ moved self.old from parcel (Stop (hand_of self.old from) parcel.packet) }
     {
-        self.hands.clear(hand_place(self.settings, from.actor));
+        self.hall
+            .clear(hand_place(self.hall.settings(), from.actor));
     }
 
     /// The host's holder gives its parcel to be sealed there and sent then, or it is lost where that queue is full.
@@ -221,10 +241,11 @@ impl Traffic {
         ensures end { result ≡ end_here self.old from }
         ensures moved { self.new ≡ moved self.old from parcel (seal_by (hand_of self.old from) (seal_of self.old from) parcel.packet result net target) }
     {
+        let settings = self.hall.settings();
         let packet = parcel.packet();
-        self.hands.clear(hand_place(self.settings, from.actor));
-        let queue = queue_place(self.settings, node_of(from.actor), Queue::Seal);
-        if self.queues.push(queue, parcel) {
+        self.hall.clear(hand_place(settings, from.actor));
+        let queue = queue_place(settings, node_of(from.actor), Queue::Seal);
+        if self.hall.enter(queue, parcel) {
             return End::Full;
         }
         note_seal(&mut self.carried, packet as usize, net, target);
@@ -241,7 +262,7 @@ impl Traffic {
         ensures moved { self.new ≡ moved self.old from parcel (states.send self.old.settings (hand_of self.old from) parcel.packet result target net) }
     {
         let mut parcel = parcel;
-        let settings = self.settings;
+        let settings = self.hall.settings();
         let packet = parcel.packet();
         let hops = self.carried(packet).hops;
         wrap_to(
@@ -253,12 +274,12 @@ impl Traffic {
             net,
             target,
         );
-        self.hands.clear(hand_place(settings, from.actor));
+        self.hall.clear(hand_place(settings, from.actor));
         if hops == 0 {
             return End::Hops;
         }
         let queue = queue_place(settings, node_at(target), Queue::Wire);
-        if self.queues.push(queue, parcel) {
+        if self.hall.enter(queue, parcel) {
             return End::Full;
         }
         note_send(&mut self.carried, packet as usize, net, target);

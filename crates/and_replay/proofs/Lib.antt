@@ -1,4 +1,3 @@
-pub mod ActorNumbers
 pub mod Indexing
 pub mod PlainLog
 pub mod Installs
@@ -7,6 +6,4 @@ pub mod Decisions
 pub mod DueSteps
 pub mod InHands
 pub mod Unsealed
-pub mod EnabledBefore
-pub mod Readying
 pub mod Turning

@@ -47,8 +47,12 @@ use Rattle.and_events.specs.Sound.{IsSound, IsBuilt, IsBuiltEntry}
 use Rattle.and_events.specs.State.{State, state, start, after, move_of, send, departs, node_at, dest_endpoint, dest_net, source_net, carried_at, packet_at, tuple_at, programme_of}
 use Rattle.and_laws.proofs.Rows.{set_at, replicate_at}
 use Rattle.and_book.proofs.Settled.{worker_node}
-use Rattle.and_replay.proofs.ActorNumbers.{worker_below}
+use Rattle.std.proofs.lemmas.Nat.{mul-add-lt}
 use Rattle.and_replay.proofs.PlainLog.{ops_of, plain_log, programme_is}
+
+-- the number of a worker's hand is below the hosts times the workers
+worker_below : (s : Settings) (h w : ℕ) → h < s.hosts → w < s.workers → h * s.workers + w < s.hosts * s.workers
+worker_below s h w is in_row = let l = mul-add-lt h s.workers w s.hosts is in_row in omega (arith, l)
 
 -- ---- no rule seals
 

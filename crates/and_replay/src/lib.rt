@@ -9,9 +9,7 @@
 //! Decisions come from an index over the log, which is looked at neither from its beginning nor once for each node: in this
 //! order every installer acts before a packet is decided of, so each node's programme is the log, and all of it installed.
 //!
-//! Whose turn it is comes from what is known of who may be enabled, kept from event to event: the numbers of those that take
-//! packets where the last one came to, and the least number of all others. An event makes nobody enabled but its own actor, the
-//! driver and those that take packets at the node to which it brings one; an Append alone may make anyone so.
+//! Whose turn it is the book tells: it keeps the set of those that may act.
 #![tactic(auto)]
 
 mod acting;
@@ -20,6 +18,5 @@ mod first;
 mod hands;
 mod index;
 mod run;
-mod waking;
 
 pub use run::{Turns, replay_run};

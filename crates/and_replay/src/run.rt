@@ -12,15 +12,13 @@ ghost use Rattle.and_events.specs.Places.{IsSmall};
 ghost use Rattle.and_book.specs.Views.{now, held};
 ghost use Rattle.and_replay.specs.Indexes.{IsIndex};
 ghost use Rattle.and_replay.specs.Slow.{AreSlow};
-ghost use Rattle.and_replay.specs.Wakings.{IsReady};
 ghost use Rattle.and_replay.specs.Turns.{IsNext, IsUnderWay, IsRight, Adds, held_in};
 
 use crate::acting::{drive, install};
 use crate::deciding::{arrive, depart, pass, take};
-use crate::first::{Ready, first_enabled, wake};
+use crate::first::first_enabled;
 use crate::hands::Hands;
 use crate::index::Index;
-use crate::waking::woken_by_newest;
 use and_book::Book;
 use and_events::{Actor, Node, Plan, Queue, Settings, hand_place};
 use and_policy::NoMemory;
@@ -131,22 +129,18 @@ fn turn(
     book: &mut Book,
     index: &mut Index,
     hands: &mut Hands,
-    ready: &mut Ready,
 ) -> Result<(), NoMemory>
     requires way { IsUnderWay book.old index.old hands.old }
-    requires ready { IsReady book.old ready.old }
     requires due { (now book.old).next < length book.old.plan.steps }
     ensures way { OnOk result (IsUnderWay book.new index.new hands.new) }
-    ensures ready { OnOk result (IsReady book.new ready.new) }
     ensures plan { OnOk result (book.new.plan ≡ book.old.plan) }
     ensures longer { OnOk result (length book.new.lines ≡ length book.old.lines + 1) }
     ensures bounded { OnOk result (length book.new.lines ≤ bound book.new.plan) }
 {
     book.room(alloc, 2)?;
-    let actor = first_enabled(book, ready);
+    let actor = first_enabled(book);
     act(alloc, book, index, hands, actor)?;
     book.is_run();
-    *ready = wake(book, *ready, woken_by_newest(book, index));
     Ok(())
 }
 
@@ -172,9 +166,8 @@ pub fn replay_run(alloc: Global, plan: Plan, turns: Turns) -> Result<Book, NoMem
     let mut hands = Hands::make(alloc, hand_count(plan.settings))?;
     let mut index = Index::new(alloc);
     let mut book = Book::make(alloc, plan, 0)?;
-    let mut ready = Ready::anyone();
     'turns: while is_due(&book) {
-        turn(alloc, &mut book, &mut index, &mut hands, &mut ready)?;
+        turn(alloc, &mut book, &mut index, &mut hands)?;
     }
     book.is_run();
     Ok(book)

@@ -7,7 +7,6 @@ use Rattle.and_events.specs.Run.{past}
 use Rattle.and_events.specs.Sound.{IsSound}
 use Rattle.and_book.specs.Views.{now}
 use Rattle.and_replay.proofs.Turning.{begins, ended, due_within, none_due}
-use Rattle.and_replay.proofs.Readying.{anyone_ready}
 use Rattle.and_replay.proofs.run.replay_run.Goals as goal
 
 pub turns-init : goal.turns-init
@@ -17,7 +16,6 @@ turns-init c =
     record {
       way = begins b c.hand_count.result c.new-index.result c.in_ok-hands.hands (subst IsSound (sym e.plan) c.requires.sound) e.threads e.lines c.new-index.ensures
           (c.hand_count.ensures ∙ ap (λ (p : Plan). hand_count p.settings) (sym e.plan)) c.in_ok-hands.ensures;
-      ready = anyone_ready b c.anyone-ready.result c.anyone-ready.ensures;
       plan = e.plan;
     }
 

@@ -1,13 +1,11 @@
 use Rattle.std.proofs.Common.{◌≡◌, ◌-◌, length}
 use Rattle.and_laws.specs.Bound.{bound}
 use Rattle.and_replay.specs.Turns.{IsUnderWay}
-use Rattle.and_replay.specs.Wakings.{IsReady}
 use Rattle.and_replay.proofs.run.replay_run.Given as goal
 
 abbrev pub invariant-turns : goal.invariant-turns
 invariant-turns l = record {
   way : IsUnderWay l.book l.index l.hands;
-  ready : IsReady l.book l.ready;
   plan : l.book.plan ≡ l.fn.plan;
 }
 

@@ -1,11 +1,10 @@
 use Rattle.std.proofs.Common.{◌≡◌, ◌<◌, ap, subst, length, arith}
 use Rattle.and_events.specs.declared.plan.Plan.{Plan}
-use Rattle.and_events.specs.Sound.{IsSound, IsBuilt}
+use Rattle.and_events.specs.Sound.{IsSound}
 use Rattle.and_events.specs.State.{State}
-use Rattle.and_book.specs.Views.{BookView, now}
+use Rattle.and_book.specs.Views.{now}
 use Rattle.and_replay.proofs.InHands.{plan_kept}
 use Rattle.and_replay.proofs.Turning.{same_now, with_room, turned, bounded}
-use Rattle.and_replay.proofs.Readying.{stays_ready}
 use Rattle.and_replay.proofs.run.turn.Goals as goal
 
 pub returns-clause-way : goal.returns-clause-way
@@ -24,15 +23,3 @@ returns-clause-way c =
 
 pub returns-clause-bounded : goal.returns-clause-bounded
 returns-clause-bounded c = bounded c.act.new.book c.is_run.ensures.run
-
-pub returns-clause-ready : goal.returns-clause-ready
-returns-clause-ready c =
-    let b' = c.room.new.self in
-    let new = c.act.new.book in
-    let adds = c.in_ok-act.ensures.adds in
-    let kept = plan_kept b' new c.first_enabled-actor.result _ adds in
-    stays_ready b' new c.first_enabled-actor.result adds.event c.first_enabled-actor.new.ready c.wake.result c.woken_by_newest.result
-    (subst IsSound kept c.is_run.ensures.sound) (subst IsBuilt kept c.is_run.ensures.built) c.is_run.ensures.run adds.line adds.actor
-    c.first_enabled-actor.ensures.ready c.first_enabled-actor.ensures.among
-    (c.woken_by_newest.ensures b'.lines (record { seat = 0; event = adds.event }) (now new).programmes.log (ap (λ (b : BookView). b.lines) adds.line) c.in_ok-act.ensures.index)
-    c.wake.ensures.among c.wake.ensures.least

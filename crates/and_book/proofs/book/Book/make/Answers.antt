@@ -21,7 +21,7 @@ invariant_of-result c =
     let plan : Plan = c.args.plan in
     let k : Kept = record { next = 0; progress = c.in_ok-progress.progress; ports = c.in_ok-ports.ports; roads = c.in_ok-traffic.traffic; nets = c.in_ok-nets.nets.items } in
     keeps_start plan c.args.threads c.new.result.items k _ c.len-4.result (plan.settings.hosts + plan.settings.gateways) c.len.result c.requires.sound c.requires.built c.new.ensures.items refl refl
-    c.len-4.ensures c.len.ensures c.in_ok-progress.ensures.programmes c.in_ok-ports.ensures (ap (λ (r : Roads). r.flow) c.in_ok-traffic.ensures)
+    c.len-4.ensures c.len.ensures c.in_ok-progress.ensures.programmes c.in_ok-ports.ensures (ap (λ (r : Roads). r.flow) c.in_ok-traffic.ensures) c.in_ok-progress.ensures.held (ap (λ (r : Roads). r.held) c.in_ok-traffic.ensures)
     (record {
       settings = ap (λ (r : Roads). r.settings) c.in_ok-traffic.ensures;
       limit = c.in_ok-progress.ensures.limit ∙ c.len-2.ensures;

@@ -1,20 +1,29 @@
-use Rattle.std.proofs.Common.{◌≡◌, ◌<◌, ◌+◌, ◌∙◌, sym, ap, subst, arith, rules, length, [], ◌∷◌, vec_capacity}
-use Rattle.std.proofs.lemmas.List.{length-append}
-use Rattle.and_events.specs.Programming.{Logs, programmes_after}
-use Rattle.and_kept.specs.Nodes.{Progressed}
-use Rattle.and_kept.proofs.NodesLemmas.{progress_more, logs_nodes}
+use Rattle.std.proofs.Common.{arith}
+use Rattle.and_kept.proofs.ReadyLemmas.{readied_anew, logged_size}
 use Rattle.and_kept.proofs.progress.Progress.append.Goals as goal
 
 pub invariant_of-self : goal.invariant_of-self
 invariant_of-self c =
-    let log = c.self.inside.log.items in
-    let room : length log < c.self.inside.limit = subst (λ (p : Progressed). length p.programmes.log < p.limit) (sym c.self.view_is) c.requires in
-    let number : c.len-number.result ≡ length log + 1 = omega (arith, c.len-number.ensures, ap length c.push_reserved.ensures.items, length-append log (c.args.entry ∷ [])) in
-    progress_more log c.push_reserved.new.self.items c.self.inside.nodes.items c.push_all.new.nodes.items c.self.inside.homes c.note.new.self c.args.entry c.self.inside.behind c.len-self-inside.result c.self.inside.limit (vec_capacity c.self.inside.log) (vec_capacity c.push_reserved.new.self)
-    c.self.invariant room c.push_reserved.ensures.items c.push_all.ensures.nodes c.push_all.ensures.behind (search rules) c.push_reserved.ensures.capacity
-    (c.note.ensures.log log number c.self.invariant.homes_are)
+    let x = c.self.inside in
+    let inv = c.self.invariant in
+    let same = logged_size x.nodes.programmes c.append.new.self.programmes c.args.entry c.append.ensures.programmes in
+    readied_anew c.append.new.self.programmes x.held.items x.ready c.refresh.new.ready c.len-count.result
+    (omega (arith, inv.few, same)) (omega (arith, c.len-count.ensures, inv.held, same)) (omega (arith, inv.held, same)) (omega (arith, c.refresh.ensures.size, inv.size, same)) c.refresh.ensures.told
 
-pub returns-clause-programmes : goal.returns-clause-programmes
-returns-clause-programmes c =
-    logs_nodes c.self.inside.log.items c.push_reserved.new.self.items c.self.inside.nodes.items c.push_all.new.nodes.items c.args.entry c.push_reserved.ensures.items c.push_all.ensures.nodes
-    ∙ ap (λ (p : Progressed). programmes_after p.programmes (Logs c.args.entry)) c.self.view_is
+pub refresh-requires-clause-held : goal.refresh-requires-clause-held
+refresh-requires-clause-held c =
+    let x = c.self.inside in
+    let same = logged_size x.nodes.programmes c.append.new.self.programmes c.args.entry c.append.ensures.programmes in
+    omega (arith, c.self.invariant.held, same)
+
+pub refresh-requires-clause-size : goal.refresh-requires-clause-size
+refresh-requires-clause-size c =
+    let x = c.self.inside in
+    let same = logged_size x.nodes.programmes c.append.new.self.programmes c.args.entry c.append.ensures.programmes in
+    omega (arith, c.self.invariant.size, same)
+
+pub refresh-requires-clause-high : goal.refresh-requires-clause-high
+refresh-requires-clause-high c =
+    let x = c.self.inside in
+    let same = logged_size x.nodes.programmes c.append.new.self.programmes c.args.entry c.append.ensures.programmes in
+    omega (arith, c.self.invariant.held, same, c.len-count.ensures)

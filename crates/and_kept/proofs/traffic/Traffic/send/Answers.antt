@@ -1,12 +1,14 @@
-use Rattle.std.proofs.Common.{◌≡◌, ◌∙◌, ap, subst, sym, rules}
+use Rattle.std.proofs.Common.{◌≡◌, ◌∙◌, ap, subst, sym}
 use Rattle.and_events.specs.declared.event.Carried.{Carried}
 use Rattle.and_events.specs.declared.event.Node.{Node}
 use Rattle.and_events.specs.declared.event.Queue.TheVariants.{Wire}
-use Rattle.and_events.specs.Flow.{Send, carried_in}
-use Rattle.and_events.specs.Places.{queue_place}
+use Rattle.and_events.specs.declared.plan.Settings.{Settings}
+use Rattle.and_events.specs.Flow.{Flow, Send, carried_in, pushed}
+use Rattle.and_events.specs.Places.{hand_place, queue_place}
+use Rattle.and_kept.specs.Busy.{HallView}
 use Rattle.and_kept.specs.Outers.{wrapped}
 use Rattle.and_kept.specs.Settling.{queue_to}
-use Rattle.and_kept.specs.Lanes.{Roads}
+use Rattle.and_kept.specs.Lanes.{Roads, with_parcel}
 use Rattle.and_kept.specs.Moves.{hand_of, moved}
 use Rattle.and_kept.proofs.MovesLemmas.{sent_on}
 use Rattle.and_kept.proofs.traffic.Traffic.send.Goals as goal
@@ -14,12 +16,26 @@ use Rattle.and_kept.proofs.traffic.Traffic.send.Goals as goal
 pub returns-clause-moved : goal.returns-clause-moved
 returns-clause-moved c =
     let x = c.self.inside in
-    let t : Roads = record { settings = x.settings; flow = record { queues = x.queues.numbers; hands = x.hands; carried = x.carried.items }; parcels = x.queues.parcels } in
-    subst (λ (v : Roads). record t { flow = record { queues = c.push.new.self.numbers; hands = c.clear.new.self; carried = c.note_send.new.carried.items }; parcels = c.push.new.self.parcels }
+    let h : HallView = x.hall in
+    let t : Roads = record { settings = h.settings; flow = record { queues = h.queues; hands = h.hands; carried = x.carried.items }; parcels = h.parcels; held = h.held } in
+    let w = c.wrap_to.new.parcel in
+    let q = c.queue_place-queue.result in
+    let last : HallView = c.enter.new.self in
+    let flow : Flow = record { queues = last.queues; hands = last.hands; carried = c.note_send.new.carried.items } in
+    let cleared = c.clear.ensures in
+    let settings = c.enter.ensures.settings ∙ ap (λ (y : HallView). y.settings) cleared in
+    let held = c.enter.ensures.held ∙ ap (λ (y : HallView). y.held) cleared in
+    let same = c.settings-settings.ensures.is in
+    subst (λ (v : Roads). record { settings = last.settings; flow = flow; parcels = last.parcels; held = last.held }
     ≡ moved v c.args.from c.args.parcel (Send (hand_of v c.args.from) (queue_to v.settings c.args.target) c.args.parcel.packet c.args.net c.args.target)) c.self.view_is
-    (sent_on t c.args.from c.args.parcel c.wrap_to.new.parcel c.hand_place.result c.queue_place-queue.result c.packet-packet.result c.carried-hops.result.hops c.args.net c.args.target
-    c.push.new.self.numbers c.clear.new.self c.note_send.new.carried.items c.push.new.self.parcels
-    c.packet-packet.ensures c.hand_place.ensures.place (c.queue_place-queue.ensures.place ∙ ap (λ (n : Node). queue_place x.settings n Wire) c.node_at.ensures)
+    (ap (λ v. record { settings = v; flow = flow; parcels = last.parcels; held = last.held }) settings
+    ∙ (ap (λ m. record { settings = h.settings; flow = flow; parcels = last.parcels; held = m }) held
+    ∙ sent_on t c.args.from c.args.parcel w c.hand_place.result q c.packet-packet.result c.carried-hops.result.hops c.args.net c.args.target
+    last.queues last.hands c.note_send.new.carried.items last.parcels
+    c.packet-packet.ensures (c.hand_place.ensures.place ∙ ap (λ (v : Settings). hand_place v c.args.from.actor) same)
+    (c.queue_place-queue.ensures.place ∙ (ap (λ (n : Node). queue_place c.settings-settings.result n Wire) c.node_at.ensures ∙ ap (λ (v : Settings). queue_to v c.args.target) same))
     (ap (λ (y : Carried). y.hops) (c.carried-hops.ensures.is ∙ ap (λ (v : Roads). carried_in v.flow.carried c.packet-packet.result) (sym c.self.view_is)))
     (c.wrap_to.ensures ∙ ap (λ n. wrapped n c.args.from.tuple c.carried-hops.result.hops c.args.parcel c.args.net c.args.target) c.node_of.ensures)
-    (search rules) c.clear.ensures c.note_send.ensures (search rules))
+    (c.if-enter.ensures.queues ∙ ap (λ (y : HallView). pushed y.queues q w.packet) cleared)
+    (c.enter.ensures.hands ∙ ap (λ (y : HallView). y.hands) cleared) c.note_send.ensures
+    (c.if-enter.ensures.parcels ∙ ap (λ (y : HallView). with_parcel y.parcels q w) cleared)))

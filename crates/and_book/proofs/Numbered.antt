@@ -1,0 +1,114 @@
+-- Who acts, by the number of the actor.
+use Rattle.std.proofs.Common.{◌≡◌, ℕ, ◌+◌, ◌-◌, ◌*◌, ◌<◌, ◌≤◌, ◌↔◌, ◌&&◌, Bool, true, false, List, refl, sym, ap, ◌∙◌, subst, arith, Option, ⊎_elim}
+use Rattle.std.specs.Prelude.{◌==◌, nat_lt, if◌then◌else◌, IsTrue}
+use Rattle.std.proofs.lemmas.Bool.{eq-eqb, cases_lt}
+use Rattle.std.proofs.lemmas.Grind.{common_steps}
+use Rattle.std.proofs.lemmas.Nat.{mul-add-lt}
+use Rattle.and_events.specs.declared.event.Actor.{Actor}
+use Rattle.and_events.specs.declared.event.Actor.TheVariants.{HostInstall, GateInstall, Worker, Coproc, Gateway, Controller, Driver}
+use Rattle.and_events.specs.declared.plan.Packet.{Packet}
+use Rattle.and_events.specs.declared.plan.Settings.{Settings}
+use Rattle.and_events.specs.declared.plan.Step.{Step}
+use Rattle.and_events.specs.Flow.{Flow}
+use Rattle.and_events.specs.Places.{node_count, hand_count, hand_place, actor_number, actor_count, IsActor, Handles}
+use Rattle.and_events.specs.Programming.{Programmes}
+use Rattle.and_events.specs.State.{NodeHolds}
+use Rattle.and_kept.specs.Busy.{is_busy}
+use Rattle.and_kept.specs.Moves.{IsBusy}
+use Rattle.and_kept.specs.Nodes.{is_ready}
+use Rattle.and_kept.proofs.BusyActors.{busy_is}
+use Rattle.and_book.specs.Enabling.{Acts, CanDo, acts_at}
+use Rattle.and_book.proofs.Taking.{hand_there}
+
+less_is : (a b : ℕ) → a < b → nat_lt a b ≡ true
+less_is a b less = grind (arith, common_steps)
+
+not_less : (a b : ℕ) → b ≤ a → nat_lt a b ≡ false
+not_less a b le = grind (arith, common_steps)
+
+pub number_below : (v : Settings) (a : Actor) → IsActor v a → actor_number v a < actor_count v
+number_below v (HostInstall h) is = omega (arith, is)
+number_below v (GateInstall g) is = omega (arith, is)
+number_below v (Worker h w) is = let there = hand_there v (Worker h w) is tt in omega (arith, there)
+number_below v (Coproc h) is = let there = hand_there v (Coproc h) is tt in omega (arith, there)
+number_below v (Gateway g) is = let there = hand_there v (Gateway g) is tt in omega (arith, there)
+number_below v Controller is = omega arith
+number_below v Driver is = omega arith
+
+module _ (v : Settings) (p : Programmes) (m : NodeHolds) (f : Flow) (driver : Bool) where
+  pub at_node : (n : ℕ) → n < node_count v → acts_at v p m f driver n ≡ is_ready p m.install n
+  unfolding acts_at
+  at_node n l = rw (less_is n (node_count v) l) refl
+
+  pub at_hand : (k : ℕ) → k < hand_count v → acts_at v p m f driver (node_count v + k) ≡ is_busy v f.queues f.hands m.forward k
+  unfolding acts_at
+  at_hand k l =
+      let past : node_count v + k - node_count v ≡ k = omega arith in
+      rw (not_less (node_count v + k) (node_count v) (omega arith), less_is (node_count v + k) (node_count v + hand_count v) (omega (arith, l)), past) refl
+
+  pub at_controller : acts_at v p m f driver (node_count v + hand_count v) ≡ false
+  unfolding acts_at
+  at_controller =
+      let n = node_count v + hand_count v in
+      rw (not_less n (node_count v) (omega arith), not_less n n (omega arith)) (never driver n)
+    where
+      never : (b : Bool) (n : ℕ) → (b && (n == n + 1)) ≡ false
+      never true n = grind (arith, common_steps)
+      never false n = refl
+
+  pub at_driver : acts_at v p m f driver (node_count v + hand_count v + 1) ≡ driver
+  unfolding acts_at
+  at_driver =
+      let n = node_count v + hand_count v + 1 in
+      rw (not_less n (node_count v) (omega arith), not_less n (node_count v + hand_count v) (omega arith)) (always driver n)
+    where
+      always : (b : Bool) (n : ℕ) → (b && (n == n)) ≡ b
+      always true n = eq-eqb n n refl
+      always false n = refl
+
+module _ (v : Settings) (packets : List Packet) (p : Programmes) (m : NodeHolds) (f : Flow) (due : Option Step) (driver : Bool) (drives : IsTrue driver ↔ CanDo v packets p f due) where
+  takes_at : (a : Actor) (is : IsActor v a) (t : Handles a) → acts_at v p m f driver (node_count v + hand_place v a) ≡ is_busy v f.queues f.hands m.forward (hand_place v a)
+  takes_at a is t = at_hand v p m f driver (hand_place v a) (hand_there v a is t)
+
+  -- whoever acts has a number that acts, and the other way round
+  pub at_number : (a : Actor) → IsActor v a → Acts v packets p m f due a → acts_at v p m f driver (actor_number v a) ≡ true
+  at_number (HostInstall h) is acts = at_node v p m f driver h (omega (arith, is)) ∙ acts
+  at_number (GateInstall g) is acts = at_node v p m f driver (v.hosts + g) (omega (arith, is)) ∙ acts
+  at_number (Worker h w) is acts = takes_at (Worker h w) is tt ∙ (busy_is v f m.forward (Worker h w) is tt).1 acts
+  at_number (Coproc h) is acts = takes_at (Coproc h) is tt ∙ (busy_is v f m.forward (Coproc h) is tt).1 acts
+  at_number (Gateway g) is acts = takes_at (Gateway g) is tt ∙ (busy_is v f m.forward (Gateway g) is tt).1 acts
+  at_number Controller is acts = absurd acts
+  at_number Driver is acts = at_driver v p m f driver ∙ drives.1 acts
+
+  pub at_acts : (a : Actor) → IsActor v a → acts_at v p m f driver (actor_number v a) ≡ true → Acts v packets p m f due a
+  at_acts (HostInstall h) is e = sym (at_node v p m f driver h (omega (arith, is))) ∙ e
+  at_acts (GateInstall g) is e = sym (at_node v p m f driver (v.hosts + g) (omega (arith, is))) ∙ e
+  at_acts (Worker h w) is e = (busy_is v f m.forward (Worker h w) is tt).0 (sym (takes_at (Worker h w) is tt) ∙ e)
+  at_acts (Coproc h) is e = (busy_is v f m.forward (Coproc h) is tt).0 (sym (takes_at (Coproc h) is tt) ∙ e)
+  at_acts (Gateway g) is e = (busy_is v f m.forward (Gateway g) is tt).0 (sym (takes_at (Gateway g) is tt) ∙ e)
+  at_acts Controller is e = absurd (let clash : true ≡ false = sym e ∙ at_controller v p m f driver in cc)
+  at_acts Driver is e = drives.0 (sym (at_driver v p m f driver) ∙ e)
+
+-- ---- none before
+
+module _ (v : Settings) (p : Programmes) (m : NodeHolds) (f : Flow) (driver : Bool) where
+  abbrev pub NoneActs : ℕ → Type 0
+  NoneActs n = (j : ℕ) → j < n → acts_at v p m f driver j ≡ false
+
+  pub none_nodes : (n : ℕ) → n ≤ node_count v → ((j : ℕ) → j < n → is_ready p m.install j ≡ false) → NoneActs n
+  none_nodes n le none j l = at_node v p m f driver j (omega (arith, le, l)) ∙ none j l
+
+  pub none_hands : (k : ℕ) → k ≤ hand_count v → NoneActs (node_count v) → ((j : ℕ) → j < k → is_busy v f.queues f.hands m.forward j ≡ false) → NoneActs (node_count v + k)
+  none_hands k le nodes none j l =
+      ⊎_elim (λ (early : j < node_count v). nodes j early)
+      (λ (late : node_count v ≤ j).
+      let same : node_count v + (j - node_count v) ≡ j = omega (arith, late) in
+      subst (λ n. acts_at v p m f driver n ≡ false) same
+      (at_hand v p m f driver (j - node_count v) (omega (arith, late, l, le)) ∙ none (j - node_count v) (omega (arith, late, l))))
+      (cases_lt j (node_count v))
+
+  pub none_more : (n : ℕ) → NoneActs n → acts_at v p m f driver n ≡ false → NoneActs (n + 1)
+  none_more n none here j l =
+      ⊎_elim (λ (early : j < n). none j early)
+      (λ (late : n ≤ j). let same : n ≡ j = omega (arith, late, l) in subst (λ k. acts_at v p m f driver k ≡ false) same here)
+      (cases_lt j n)

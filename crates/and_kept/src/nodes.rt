@@ -1,0 +1,242 @@
+//! The log and the nodes' programmes.
+ghost use Rattle.std.specs.Prelude.{◌≡◌, ℕ, ◌+◌, ◌-◌, ◌<◌, ◌≤◌, ◌↔◌, ◌^◌, List, [], ◌∷◌, ◌++◌, length, map, true, IsTrue, IfOk, replicate, slice_set};
+ghost use Rattle.std.specs.List.{All};
+ghost use Rattle.and_policy.specs.Owners as owners;
+ghost use Rattle.and_events.specs.Programming.{Logs, Announces, Installs, HasInstalled, programmes_after, programme_at, announced_at, installed_at};
+ghost use Rattle.and_events.specs.Legal as legal;
+ghost use Rattle.and_kept.specs.Nodes.{Programmed, with_entry, is_behind, node_at};
+
+use crate::count::one_if;
+use crate::homes::Homes;
+use crate::programme::Programme;
+use and_policy::{Entry, NoMemory, Op};
+use std::alloc::Global;
+use std::marker::Model;
+
+/// The log, and each node's programme with how much of it is announced and installed. Nodes go by their places.
+///
+/// Contracts see it as the definition's component, beside the number of entries that the log has room for and the number
+/// of VMs of which it is kept where they are.
+#[derive(Drop)]
+pub(crate) struct Nodes {
+    log: Vec<Entry>,
+    nodes: Vec<Programme>,
+    homes: Homes,
+    behind: usize,
+    limit: u32,
+}
+
+impl Model for Nodes {
+    ghost use Rattle.std.specs.Prelude.{length, vec_capacity};
+    ghost use Rattle.and_kept.specs.Nodes.{NodesView, programmes_of, IsProgress};
+
+    ghost Value = { NodesView };
+
+    ghost view = { λ p. record { programmes = programmes_of p.log.items p.nodes.items; limit = p.limit; vms = length p.homes.added } };
+
+    ghost invariant = { λ p. IsProgress p.log.items p.nodes.items p.homes p.behind p.limit (vec_capacity p.log) };
+}
+
+#[tactic(auto, unfolding(and_events::specs::Programming::programmes_after))]
+impl Nodes {
+    /// An empty log with room for `limit` entries, so many nodes with empty programmes, and so many VMs. All memory is
+    /// taken here.
+    pub(crate) fn make(
+        alloc: Global,
+        nodes: usize,
+        limit: u32,
+        vms: usize,
+    ) -> Result<Nodes, NoMemory>
+        ensures programmes { IfOk result (λ p. p.programmes ≡ record { log = []; ops = replicate nodes []; announced = replicate nodes 0; installed = replicate nodes 0 }) }
+        ensures limit { IfOk result (λ p. p.limit ≡ limit) }
+        ensures vms { IfOk result (λ p. p.vms ≡ vms) }
+    {
+        let Ok(log) = Vec::with_capacity(alloc, limit as usize) else {
+            return Err(NoMemory);
+        };
+        let homes = Homes::make(alloc, vms)?;
+        let nodes = make_nodes(alloc, nodes, limit)?;
+        Ok(Nodes {
+            log,
+            nodes,
+            homes,
+            behind: 0,
+            limit,
+        })
+    }
+
+    /// The log.
+    pub(crate) fn log(&self) -> &[Entry]
+        ensures { result.now ≡ self.now.programmes.log }
+    {
+        self.log.as_slice()
+    }
+
+    /// The node's programme.
+    pub(crate) fn programme(&self, node: usize) -> &[Op]
+        requires { node < length self.now.programmes.ops }
+        ensures { result.now ≡ programme_at self.now.programmes node }
+    {
+        let node = &self.nodes[node];
+        node.ops()
+    }
+
+    /// How much of it is announced.
+    pub(crate) fn announced(&self, node: usize) -> u32
+        requires { node < length self.now.programmes.ops }
+        ensures { result ≡ announced_at self.now.programmes node }
+    {
+        let node = &self.nodes[node];
+        node.announced()
+    }
+
+    /// How much of it is installed.
+    pub(crate) fn installed(&self, node: usize) -> u32
+        requires { node < length self.now.programmes.ops }
+        ensures { result ≡ installed_at self.now.programmes node }
+    {
+        let node = &self.nodes[node];
+        node.installed()
+    }
+
+    /// Whether the node has installed the log entry of this number, from 1.
+    pub(crate) fn has_installed(&self, node: usize, number: u32) -> bool
+        requires { node < length self.now.programmes.ops }
+        ensures { IsTrue result ↔ HasInstalled self.now.programmes node number }
+    {
+        let node = &self.nodes[node];
+        number <= node.entries_installed()
+    }
+
+    /// Whether each node has installed its whole programme.
+    pub(crate) fn all_installed(&self) -> bool
+        ensures { IsTrue result ↔ ((n : ℕ) → n < length self.now.programmes.ops
+            → installed_at self.now.programmes n ≡ length (programme_at self.now.programmes n)) }
+    {
+        self.behind == 0
+    }
+
+    /// The number of the log entry that added the VM, from 1.
+    pub(crate) fn added(&self, vm: u32) -> Option<u32>
+        requires { vm < self.now.vms }
+        ensures { result ≡ legal.added_at self.now.programmes.log vm }
+    {
+        self.homes.added(vm as usize)
+    }
+
+    /// The host where the VM is under the log.
+    pub(crate) fn place(&self, vm: u32) -> Option<u32>
+        requires { vm < self.now.vms }
+        ensures { result ≡ owners.place self.now.programmes.log vm }
+    {
+        self.homes.place(vm as usize)
+    }
+
+    /// The log and each programme get an entry.
+    pub(crate) fn append(&mut self, entry: Entry)
+        requires { length self.old.programmes.log < self.old.limit }
+        ensures programmes { self.new.programmes ≡ programmes_after self.old.programmes (Logs entry) }
+        ensures limit { self.new.limit ≡ self.old.limit }
+        ensures vms { self.new.vms ≡ self.old.vms }
+    {
+        push_all(&mut self.nodes, entry);
+        self.behind = self.nodes.len();
+        self.log.push_reserved(entry);
+        let number = self.log.len() as u32;
+        self.homes.note(entry, number);
+    }
+
+    /// The node announces how long its programme is.
+    pub(crate) fn announce(&mut self, node: usize) -> u32
+        requires { node < length self.old.programmes.ops }
+        ensures upto { result ≡ length (programme_at self.old.programmes node) }
+        ensures programmes { self.new.programmes ≡ programmes_after self.old.programmes (Announces node result) }
+        ensures limit { self.new.limit ≡ self.old.limit }
+        ensures vms { self.new.vms ≡ self.old.vms }
+    {
+        announce_at(&mut self.nodes, node)
+    }
+
+    /// The node has installed what it announced.
+    pub(crate) fn install(&mut self, node: usize) -> u32
+        requires { node < length self.old.programmes.ops }
+        ensures upto { result ≡ announced_at self.old.programmes node }
+        ensures programmes { self.new.programmes ≡ programmes_after self.old.programmes (Installs node result) }
+        ensures limit { self.new.limit ≡ self.old.limit }
+        ensures vms { self.new.vms ≡ self.old.vms }
+    {
+        let was_behind = is_behind_at(&self.nodes, node);
+        let upto = install_at(&mut self.nodes, node);
+        let now_behind = is_behind_at(&self.nodes, node);
+        self.behind = self.behind - one_if(was_behind) + one_if(now_behind);
+        upto
+    }
+}
+
+// So many empty programmes with room for so many operations.
+fn make_nodes(alloc: Global, count: usize, limit: u32) -> Result<Vec<Programme>, NoMemory>
+    ensures { IfOk result (λ nodes. nodes.items ≡ replicate count (record { ops = []; announced = 0; installed = 0; limit = limit })) }
+{
+    let mut nodes: Vec<Programme> = Vec::new(alloc);
+    for _node in 0..count {
+        let node = Programme::make(alloc, limit)?;
+        if nodes.push(node).is_err() {
+            return Err(NoMemory);
+        }
+    }
+    Ok(nodes)
+}
+
+// Each programme gets the entry.
+fn push_all(nodes: &mut Vec<Programme>, entry: Entry)
+    requires { All (λ n. length n.ops < n.limit) nodes.old.items }
+    ensures nodes { nodes.new.items ≡ map (with_entry entry) nodes.old.items }
+    ensures behind { All (λ n. is_behind n ≡ true) nodes.new.items }
+{
+    let count = nodes.len();
+    for node in 0..count {
+        push_at(nodes, node, entry);
+    }
+}
+
+// The node's programme gets the entry.
+fn push_at(nodes: &mut Vec<Programme>, node: usize, entry: Entry)
+    requires node { node < length nodes.old.items }
+    requires room { length (node_at nodes.old.items node).ops < (node_at nodes.old.items node).limit }
+    ensures nodes { nodes.new.items ≡ slice_set nodes.old.items node (with_entry entry (node_at nodes.old.items node)) }
+    ensures behind { is_behind (node_at nodes.new.items node) ≡ true }
+{
+    let programme = &mut nodes[node];
+    programme.push(entry);
+}
+
+// Whether not all of the node's programme is installed.
+fn is_behind_at(nodes: &[Programme], node: usize) -> bool
+    requires { node < length nodes.now }
+    ensures { result ≡ is_behind (node_at nodes.now node) }
+{
+    let entry = &nodes[node];
+    entry.is_behind()
+}
+
+// The node announces its whole programme, and how long that is.
+fn announce_at(nodes: &mut Vec<Programme>, node: usize) -> u32
+    requires { node < length nodes.old.items }
+    ensures upto { result ≡ length (node_at nodes.old.items node).ops }
+    ensures nodes { let n = node_at nodes.old.items node in nodes.new.items ≡ slice_set nodes.old.items node (record n { announced = length n.ops }) }
+{
+    let entry = &mut nodes[node];
+    entry.announce();
+    entry.announced()
+}
+
+// The node has installed what it announced, and how much that is.
+fn install_at(nodes: &mut Vec<Programme>, node: usize) -> u32
+    requires { node < length nodes.old.items }
+    ensures upto { result ≡ (node_at nodes.old.items node).announced }
+    ensures nodes { let n = node_at nodes.old.items node in nodes.new.items ≡ slice_set nodes.old.items node (record n { installed = n.announced }) }
+{
+    let entry = &mut nodes[node];
+    entry.install();
+    entry.installed()
+}

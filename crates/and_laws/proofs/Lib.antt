@@ -45,3 +45,5 @@ pub mod Hands
 pub mod Enabling
 pub mod GoingOn
 pub mod Unstuck
+pub mod Deciding
+pub mod Counted

@@ -10,3 +10,4 @@ pub mod Ends
 pub mod Targets
 pub mod Stages
 pub mod Progress
+pub mod Decided

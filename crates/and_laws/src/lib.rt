@@ -50,7 +50,9 @@ pub use fresh::decisions_are_fresh;
 pub use just::{fates_are_just, offloads_lead_right, places_follow_decisions};
 pub use length::{programmes_are_short, runs_are_bounded};
 pub use limits::{hops_add_up, losses_are_due, queues_are_within_capacity};
-pub use packets::{all_accounted, one_fate_or_place};
+pub use packets::{
+    all_accounted, first_packets_are_injected, no_decision_after_fate, one_fate_or_place,
+};
 pub use ports::{live_vms_run_once, ports_follow_the_steps};
 pub use programmes::programmes_follow_the_log;
 pub use progress::runs_go_on;

@@ -1,11 +1,8 @@
 -- The first that matches in the sorted list is the least that matches; and how the sorted list follows an addition and a deletion.
-use Rattle.std.proofs.Common.{◌≡◌, ℕ, Bool, true, false, ◌||◌, not, List, [], ◌∷◌, ◌++◌, Option, Some, None, cond, refl, ap, sym, ◌∙◌, arith, inl, inr, subst}
+use Rattle.std.proofs.Common.{◌≡◌, ℕ, Bool, true, false, List, [], ◌∷◌, ◌++◌, Some, cond, refl, ap, sym, ◌∙◌, arith}
 use Rattle.std.specs.Prelude.{nat_lt, if◌then◌else◌, ◌==◌}
 use Rattle.std.specs.List.{find, filter, list_any}
-use Rattle.std.proofs.lemmas.Bool.{ltb-true, ltb-false, lt-ltb, le-ltb, ne_eqb, eq-eqb, cases_order, eqb-true}
-use Rattle.and_policy.specs.declared.entry.Rule.{Rule}
-use Rattle.and_policy.specs.declared.entry.Route.{Route}
-use Rattle.and_policy.specs.Egress.{rule_before}
+use Rattle.std.proofs.lemmas.Bool.{ltb-true, ltb-false, lt-ltb, le-ltb, ne_eqb, eq-eqb}
 use Rattle.and_policy.specs.Matching.{better, least}
 use Rattle.and_policy.specs.Once.{Once}
 use Rattle.and_policy.specs.Sorting.{IsOrder, place, sorted, AllAfter, Ascends, Differ, smaller_route}
@@ -69,7 +66,7 @@ module _ {A : Type 0} (before : A → A → Bool) (number : A → ℕ) where
 
   -- ---- the first that matches
 
-  first_best : (o : IsOrder before number) (m : A → Bool) (x : A) (ys : List A) → AllAfter before x ys → better before x (find m ys) ≡ x
+  pub first_best : (o : IsOrder before number) (m : A → Bool) (x : A) (ys : List A) → AllAfter before x ys → better before x (find m ys) ≡ x
   first_best o m x [] a = refl
   first_best o m x (y ∷ ys) a = at_first (m y) (first_best o m x ys a.1)
     where

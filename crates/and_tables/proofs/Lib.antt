@@ -1,0 +1,11 @@
+pub mod Lasts
+pub mod Living
+pub mod Known
+pub mod Offloads
+pub mod Pairs
+pub mod Applied
+pub mod Knowing
+pub mod Stepping
+pub mod Ruling
+pub mod Cases
+pub mod Keeping

@@ -5,4 +5,3 @@ pub mod Planned
 pub mod Building
 pub mod Planning
 pub mod Promises
-pub mod Sourcing

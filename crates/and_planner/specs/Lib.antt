@@ -1,4 +1,3 @@
 pub mod Scenarios
 pub mod Plans
-pub mod Sources
 pub mod Planners

@@ -1,9 +1,10 @@
 -- What the plan's program keeps, as the definition of the plan sees it.
-use Rattle.std.specs.Prelude.{◌≡◌, ◌≤◌, ℕ, [], ◌∷◌, ◌++◌, length, ◌+◌, Option, Some, option_map, Result, Ok, Err}
+use Rattle.std.specs.Prelude.{Bool, true, false, ◌≡◌, ◌≤◌, ℕ, [], ◌∷◌, ◌++◌, length, ◌+◌, Option, Some, option_map, Result, Ok, Err}
 use Rattle.and_capture.specs.declared.capture.Taken.{Taken}
 use Rattle.and_policy.specs.declared.packet.Tuple.{Tuple}
 use Rattle.and_policy.specs.declared.packet.Fields.{Fields}
 use Rattle.and_policy.specs.declared.entry.Entry.{Entry}
+use Rattle.and_policy.specs.declared.entry.Entry.TheVariants.{AddNet, AddVm, AddRule}
 use Rattle.and_policy.specs.Fitting.{fits}
 use Rattle.and_policy.specs.LogView.{LogView}
 use Rattle.and_policy.specs.Logs.{Vm}
@@ -59,3 +60,10 @@ pub record KeepsOrder (old new : Planner) : Type 0 where
 -- the fault of an item that is an entry of the kinds that the program takes so far, where nothing is held
 abbrev pub entry_fault : LogView → Entry → Option ItemFault
 entry_fault log entry = option_map (λ fault. faults.Entry fault) (fits (Some log.hosts) log.entries entry)
+
+-- entries of the kinds that the system runs so far, each of which is one step
+abbrev pub is_first : Entry → Bool
+is_first (AddNet net) = true
+is_first (AddVm vm net mac ip host) = true
+is_first (AddRule net rule) = true
+is_first _ = false

@@ -1,11 +1,10 @@
 //! The work of a plan, frame by frame and item by item.
 ghost use Rattle.std.specs.Prelude.{◌≡◌, ◌+◌, ◌<◌, ◌≤◌, true, length, OnOk, IfOk};
 ghost use Rattle.and_policy.specs.Frames.{fields};
-ghost use Rattle.and_policy.specs.LogView.{is_first};
 ghost use Rattle.and_events.specs.Planned.{send_frame, send_frames, frames_of, sendable, nothing_planned, item_applied};
 ghost use Rattle.and_events.specs.Script.{item_fault};
 ghost use Rattle.and_planner.specs.Scenarios.{is_built_item};
-ghost use Rattle.and_planner.specs.Planners.{planning_of, script_of, sender_of, frame_planned, frame_skipped, KeepsOrder, entry_fault};
+ghost use Rattle.and_planner.specs.Planners.{planning_of, script_of, sender_of, frame_planned, frame_skipped, KeepsOrder, entry_fault, is_first};
 
 use crate::written::Written;
 use and_capture::Taken;

@@ -12,8 +12,6 @@ mod naming;
 mod printing;
 mod put;
 mod reader;
-#[cfg(test)]
-mod tests;
 mod word;
 mod words;
 

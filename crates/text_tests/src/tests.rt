@@ -1,8 +1,8 @@
 //! The text of each kind of line, as the format has it.
 
-use crate::print_trace;
 use and_events::{Actor, Arrival, Departure, End, Event, Line, Node, Passage, Queue, Return};
 use and_policy::{Dest, Name, Way};
+use and_trace::{TraceAnswer, TraceFault, print_trace, read_trace};
 use std::alloc::Global;
 use std::test::Fail;
 
@@ -134,7 +134,21 @@ fn ingress(way: Way, arrival: Arrival) -> Event {
     }
 }
 
-/// Whether the trace of the events is the title and these lines.
+/// The longest text that is read.
+const LONGEST: usize = 100_000;
+
+/// Whether reading the text gives the events of the lines.
+fn reads(alloc: Global, text: &[u8], lines: &[Line]) -> bool {
+    if text.len() >= LONGEST {
+        return false;
+    }
+    match read_trace(alloc, text) {
+        Ok(events) => events.iter().eq(lines.iter().map(|line| &line.event)),
+        Err(_) => false,
+    }
+}
+
+/// Whether the trace of the events is the title and these lines, and is read back.
 fn prints(alloc: Global, rows: &[(Event, &str)]) -> Result<bool, Fail> {
     let mut lines = Vec::new(alloc);
     let mut wanted = Vec::from_slice(alloc, b"andromeda trace 1\n")?;
@@ -147,7 +161,30 @@ fn prints(alloc: Global, rows: &[(Event, &str)]) -> Result<bool, Fail> {
         wanted.push(b'\n')?;
     }
     let text = print_trace(alloc, &lines)?;
-    Ok(text.as_slice() == wanted.as_slice())
+    let same = text.as_slice() == wanted.as_slice();
+    Ok(same && reads(alloc, text.as_slice(), &lines))
+}
+
+/// Texts that are no trace, and their first bad lines.
+const BAD: [(&[u8], u32); 6] = [
+    (b"", 1),
+    (b"andromeda trace 1", 1),
+    (b"andromeda trace 1\nwait 4\nfinish 5", 3),
+    (b"andromeda trace 1\nwait  4\n", 2),
+    (b"andromeda trace 1\nwait 4\nunpin h01 4\n", 3),
+    (b"andromeda trace 1\nwait 4294967296\n", 2),
+];
+
+#[test]
+fn bad_lines(rt: HostRuntime) {
+    for (text, line) in BAD {
+        let fault = TraceFault { line };
+        assert!(rt; text.len() < LONGEST);
+        assert!(rt;
+            read_trace(rt.alloc(), text) == Err(TraceAnswer::Bad(fault)),
+            "line {line}"
+        );
+    }
 }
 
 #[test]

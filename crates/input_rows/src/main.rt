@@ -5,6 +5,8 @@
 //! Its lines are written by `scripts/input_rows.py`. It promises nothing: the stored run shows what is read.
 #![tactic(auto)]
 
+ghost use Rattle.std.specs.Prelude.{◌≤◌};
+
 use and_capture::{Capture, CaptureFault, Taken, read_capture};
 use and_script::{ScenarioFault, read_scenario};
 use std::alloc::Global;

@@ -51,17 +51,28 @@ def read_bytes(path):
         raise Failure(f"{path}: {error.strerror}") from None
 
 
-def trace_of(path):
-    """The events of a trace, each as its words, in order."""
+def lines_of(path):
+    """The lines of a trace after its title, in order."""
     try:
         with open(path, encoding="ascii") as file:
             if file.readline().rstrip("\n") != TITLE:
                 raise Failure(f"{path} is no trace: its first line is not '{TITLE}'")
-            return [line.split() for line in file]
+            yield from file
     except OSError as error:
         raise Failure(f"{path}: {error.strerror}") from None
     except UnicodeDecodeError:
         raise Failure(f"{path} is no trace") from None
+
+
+def trace_of(path):
+    """The events of a trace, each as its words, in order."""
+    return map(str.split, lines_of(path))
+
+
+def ends_of(path):
+    """The events of a trace that may end a packet: the others, most of a long trace, are not taken apart."""
+    of_packets = ("egress", "ingress", "route", "redirect", "inject", "sealed")
+    return (line.split() for line in lines_of(path) if not line.endswith(" queued\n") and line.startswith(of_packets))
 
 
 def plan_of(scenario, capture):
@@ -133,14 +144,12 @@ def fate_of(words):
 
 
 def fates_of(events):
-    """By packet: its fate, the reason, and where."""
+    """By packet: its fate, the reason, and where; of events that may end a packet."""
     fates = {}
     for words in events:
-        packet = packet_of(words)
-        if packet is not None and words[0] != "take":
-            fate = fate_of(words)
-            if fate:
-                fates[packet] = (*fate, words[1].split(".")[0] if words[0] != "inject" else "")
+        fate = fate_of(words)
+        if fate:
+            fates[packet_of(words)] = (*fate, words[1].split(".")[0] if words[0] != "inject" else "")
     return fates
 
 

@@ -81,4 +81,6 @@ diff - "$work/out" <<'END' || failed "the counts of the long trace"
 packets  fate       reason
 100000   delivered  ingress rule 1
 END
+timeout 10 tools/story "$work/long" 2 "${of[1]}" "${of[2]}" >"$work/out" || failed "story took more than ten seconds on 800,000 lines"
+timeout 10 tools/ladder "$work/long" "${of[1]}" "${of[2]}" --packet 2 >"$work/out" || failed "ladder took more than ten seconds on 800,000 lines"
 echo "passed: the operator's tools"

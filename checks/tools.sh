@@ -67,6 +67,15 @@ wrong tools/story "${of[0]}" 22 "${of[1]}" "${of[2]}"
 wrong tools/ladder "${of[@]}"
 wrong tools/ladder "${of[@]}" --vm nobody
 wrong tools/scenario-from-capture "${of[1]}"
+# Traces that are none, behind their title; the last is cut.
+printf 'andromeda trace 1\ningress h1.w0\n' >"$work/short"
+printf 'andromeda trace 1\negress h1.w0 x 1 slow allow\n' >"$work/spoilt"
+head -c 3000 "${of[0]}" >"$work/cut"
+wrong tools/fates "$work/short"
+wrong tools/fates "$work/cut"
+wrong tools/story "$work/spoilt" 0 "${of[1]}" "${of[2]}"
+wrong tools/ladder "$work/spoilt" "${of[1]}" "${of[2]}" --packet 0
+wrong tools/ladder "$work/cut" "${of[1]}" "${of[2]}" --packet 21
 wrong tools/scenario-from-capture "${of[2]}" --hosts 65
 for tool in fates story ladder scenario-from-capture; do
   "tools/$tool" --help >"$work/out" && grep -q usage "$work/out" || failed "$tool --help"

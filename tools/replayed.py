@@ -34,6 +34,8 @@ def run(main):
         sys.exit(main())
     except Failure as failure:
         sys.exit(say(failure))
+    except (AttributeError, IndexError, KeyError, ValueError):
+        sys.exit(say("a line of the trace is none of a trace, or the files are not of one replay"))
     except KeyboardInterrupt:
         sys.exit(130)
 
@@ -57,7 +59,11 @@ def lines_of(path):
         with open(path, encoding="ascii") as file:
             if file.readline().rstrip("\n") != TITLE:
                 raise Failure(f"{path} is no trace: its first line is not '{TITLE}'")
-            yield from file
+            last = ""
+            for last in file:
+                yield last
+            if last and not last.endswith("\n"):
+                raise Failure(f"{path} is cut: its last line has no end")
     except OSError as error:
         raise Failure(f"{path}: {error.strerror}") from None
     except UnicodeDecodeError:

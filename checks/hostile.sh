@@ -29,7 +29,8 @@ def filled(start, piece, end=b""):
 rows = [
     ("opening brackets", b"[" * SIZE, EMPTY, 2, b"scenario: NotJson\n"),
     ("brackets of each kind", filled(b"", b'[{"a":'), EMPTY, 2, b"scenario: NotJson\n"),
-    ("pairs of brackets", filled(HEAD, b"[],", b"7]}"), EMPTY, 2, b"scenario: Field /script/0\n"),
+    # These are 333,321 items, and the number of items is looked at before any of them.
+    ("pairs of brackets", filled(HEAD, b"[],", b"7]}"), EMPTY, 2, b"scenario: Limit /script\n"),
     ("one string", filled(b'"', b"a", b'"'), EMPTY, 2, b"scenario: Field \n"),
     ("a string that does not end", filled(b'"', b"a"), EMPTY, 2, b"scenario: NotJson\n"),
     ("escapes", filled(b'"', b"\\u0061", b'"'), EMPTY, 2, b"scenario: Field \n"),

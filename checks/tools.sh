@@ -1,5 +1,6 @@
 #!/usr/bin/env bash
-# The operator's tools say of examples/three-hosts what its README says of it, answer a wrong argument with one line and status 2, and are quick on a long trace.
+# The operator's tools say of examples/three-hosts what its README says of it, answer a wrong argument with one line and status 2, and take at most ten seconds of
+# processor time for a trace of 800,000 lines.
 # The trace is the one that was written down by hand, so no built program is needed.
 set -u
 cd "$(dirname "$0")/.." || exit 1
@@ -81,15 +82,15 @@ for tool in fates story ladder scenario-from-capture; do
   "tools/$tool" --help >"$work/out" && grep -q usage "$work/out" || failed "$tool --help"
 done
 
-# 800,000 lines within ten seconds.
+# 800,000 lines within ten seconds of processor time, so that other work on the machine does not matter.
 awk 'BEGIN { print "andromeda trace 1"; for (p = 0; p < 100000; p++) {
   print "inject " p " " p " queued\ntake h0.w0 out " p "\negress h0.w0 " p " 4 slow allow implied plain hover g0 queued\ntake g0.w wire " p
   print "route g0.w " p " 4 implied send h1 7 queued\ntake h1.w0 wire " p "\ningress h1.w0 " p " 4 slow vm 1 running rule 1 deliver\nannounce h0 4" } }' >"$work/long"
-timeout 10 tools/fates "$work/long" --counts >"$work/out" || failed "fates took more than ten seconds on 800,000 lines"
+(ulimit -t 10; tools/fates "$work/long" --counts) >"$work/out" || failed "fates took more than ten seconds on 800,000 lines"
 diff - "$work/out" <<'END' || failed "the counts of the long trace"
 packets  fate       reason
 100000   delivered  ingress rule 1
 END
-timeout 10 tools/story "$work/long" 2 "${of[1]}" "${of[2]}" >"$work/out" || failed "story took more than ten seconds on 800,000 lines"
-timeout 10 tools/ladder "$work/long" "${of[1]}" "${of[2]}" --packet 2 >"$work/out" || failed "ladder took more than ten seconds on 800,000 lines"
+(ulimit -t 10; tools/story "$work/long" 2 "${of[1]}" "${of[2]}") >"$work/out" || failed "story took more than ten seconds on 800,000 lines"
+(ulimit -t 10; tools/ladder "$work/long" "${of[1]}" "${of[2]}" --packet 2) >"$work/out" || failed "ladder took more than ten seconds on 800,000 lines"
 echo "passed: the operator's tools"

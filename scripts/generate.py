@@ -1,0 +1,91 @@
+#!/usr/bin/env python3
+"""Writes generated scenarios with their captures and the texts that the model composes for them: FOLDER/N.json, N.pcap, N.report
+and N.trace for N from 0 on.
+
+Use: generate.py FOLDER COUNT SEED
+The scenarios are of the kinds of items that the program takes so far: networks, VMs, rules, sends and waits on one gateway and up to
+seven hosts. Each packet is of a flow of its own, so that no flow cache answers.
+"""
+
+import os
+import random
+import struct
+import sys
+
+import model
+
+
+def scenario_of(draw):
+    """A scenario, and the VMs that it adds as (network, number, Ethernet address, address)."""
+    hosts, nets = draw.randrange(1, 8), draw.sample(range(1, 100), draw.randrange(1, 4))
+    items, vms = [f'{{"do":"add_net","net":{net}}}' for net in nets], []
+    for number in range(draw.randrange(2, 12)):
+        net = draw.choice(nets)
+        vms.append((net, number, 0x020000000001 + number, f"10.{net}.0.{number + 1}"))
+        mac = ":".join(f"{byte:02x}" for byte in vms[-1][2].to_bytes(6, "big"))
+        items.append(f'{{"do":"add_vm","vm":"v{number}","net":{net},"mac":"{mac}","ip":"{vms[-1][3]}","host":{draw.randrange(hosts)}}}')
+    for number in range(1, draw.randrange(1, 10)):
+        side, low = draw.choice(["ingress", "ingress", "egress"]), draw.choice([22, 53, 80, 443])
+        protocol = draw.choice(["", ',"protocol":"tcp"', ',"protocol":"udp"', ',"protocol":1'])
+        ports = draw.choice(["", f',"destination_ports":[{low},{low + draw.randrange(0, 400)}]'])
+        source = draw.choice(["", f',"source":"{draw.choice(vms)[3]}/{draw.choice([16, 24, 31, 32])}"'])
+        items.append(f'{{"do":"add_rule","net":{draw.choice(nets)},"number":{number},"priority":{draw.randrange(0, 4)},"side":"{side}",'
+                     f'"action":"{draw.choice(["allow", "allow", "deny"])}"{protocol}{source}{ports}}}')
+    # Sends stand anywhere behind the networks, and some frames are reached by none.
+    for _ in range(draw.randrange(1, 5)):
+        items.insert(draw.randrange(len(nets) + 1, len(items) + 1), draw.choice(
+            ['{"do":"wait"}', '{"do":"send","frames":%d}' % draw.randrange(1, 6)]))
+    if draw.random() < 0.7:
+        items.append('{"do":"send"}')
+    return f'{{"hosts":{hosts},"gateways":1,"script":[' + ",\n".join(items) + "]}\n", vms
+
+
+def frame_of(draw, vms, number):
+    """A frame of a flow of its own, now and then one that is skipped, spoofed, or for nobody."""
+    source, destination = draw.choice(vms), draw.choice(vms)
+    mac = draw.choice([source[2]] * 9 + [0x02FFFFFFFFFF])
+    addresses = [draw.choice([source[3]] * 9 + ["10.9.9.9"]), draw.choice([destination[3]] * 9 + ["10.8.8.8"])]
+    protocol, port = draw.choice([6, 6, 17, 1]), draw.choice([22, 53, 80, 443, 500])
+    data = bytes(draw.randrange(8, 60))
+    body = struct.pack(">HH", 10000 + number, port) + data
+    total = draw.choice([20 + len(body)] * 12 + [0, 19, 22, 2000])
+    head = struct.pack(">BBHHHBBH", 0x45, 0, total, number, draw.choice([0] * 9 + [0x2000]), 64, protocol, 0)
+    head += bytes(int(part) for address in addresses for part in address.split("."))
+    kind = draw.choice([b"\x08\x00"] * 15 + [b"\x86\xdd"])
+    return (0x020000000001).to_bytes(6, "big") + mac.to_bytes(6, "big") + kind + head + body
+
+
+def capture_of(draw, vms):
+    """A capture of up to sixty frames. Of the flows without ports, each frame has a source address of its own."""
+    out, seen = struct.pack("<IHHIIII", 0xA1B2C3D4, 2, 4, 0, 0, 262144, 1), set()
+    for number in range(draw.randrange(0, 60)):
+        data = frame_of(draw, vms, number)
+        read = model.read_frame(data)
+        if not isinstance(read, str):
+            if read[1] in seen:
+                continue
+            seen.add(read[1])
+        out += struct.pack("<IIII", 1_000_000_000 + number, number, len(data), len(data)) + data
+    return out
+
+
+def main():
+    folder, count, seed = sys.argv[1], int(sys.argv[2]), int(sys.argv[3])
+    os.makedirs(folder, exist_ok=True)
+    packets = 0
+    for number in range(count):
+        draw = random.Random(seed * 1_000_003 + number)
+        scenario, vms = scenario_of(draw)
+        capture = capture_of(draw, vms)
+        run = model.replay(scenario.encode(), capture)
+        packets += len(run.plan.packets)
+        texts = {"json": scenario.encode(), "pcap": capture, "report": model.report(run).encode(), "trace": model.trace(run).encode()}
+        for kind, data in texts.items():
+            with open(os.path.join(folder, f"{number}.{kind}"), "wb") as file:
+                file.write(data)
+    print(f"{count} scenarios with {packets} packets")
+    return 0
+
+
+if __name__ == "__main__":
+    sys.exit(main())

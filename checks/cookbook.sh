@@ -1,7 +1,7 @@
 #!/usr/bin/env bash
 # Every output that the pages of docs/cookbook show is what their commands print: the commands and the outputs are taken from the pages themselves.
 # A block of commands is fenced with `sh`, where it needs a tool that may be missing with `sh TOOL`; what it prints is the block `text` behind it. The built program
-# stands in for ./demo, and a folder of its own for /tmp. With --write the outputs in the pages are written anew, to be read before they are kept.
+# stands in for ./demo, and a folder of its own for runs/. With --write the outputs in the pages are written anew, to be read before they are kept.
 set -u
 cd "$(dirname "$0")/.." || exit 1
 case ${*:-} in '' | --write) ;; *) echo "usage: cookbook.sh [--write]" >&2; exit 2 ;; esac
@@ -31,7 +31,7 @@ def check(page, block, folder):
     if tool and not shutil.which(tool):
         print(f"skipped: a block of {page}: {tool} is not installed")
         return block[0]
-    here = commands.replace("./demo ", f"{program} replay ").replace("/tmp/", folder + "/")
+    here = commands.replace("./demo ", f"{program} replay ").replace("runs/", folder + "/")
     done = subprocess.run(["bash", "-u", "-o", "pipefail", "-c", here], stdout=subprocess.PIPE, stderr=subprocess.PIPE, text=True, timeout=60)
     ran += 1
     # `diff` and `grep` end with 1 where they find a difference or nothing.

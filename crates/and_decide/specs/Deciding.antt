@@ -1,5 +1,5 @@
 -- What hosts and gateways decide of a parcel by all operations of their tables.
-use Rattle.std.specs.Prelude.{◌≡◌, ◌≤◌, ℕ, Bool, true, false, List, [], ◌∷◌, length, Result, Ok}
+use Rattle.std.specs.Prelude.{◌≡◌, ◌≤◌, ℕ, Bool, true, false, List, [], ◌∷◌, length, Result, Ok, Err}
 use Rattle.and_policy.specs.declared.cached.Cached.{Cached}
 use Rattle.and_policy.specs.declared.decision.Decision.{Decision}
 use Rattle.and_policy.specs.declared.decision.GateDecision.{GateDecision}
@@ -53,6 +53,11 @@ arrival t c vni parcel =
 abbrev pub passage : List Op → Bool → ℕ → ParcelView → GateDecision
 passage ops true vni parcel = gates.Located (length ops) (located (entries ops) vni (tuple_of parcel).destination)
 passage ops false vni parcel = gates.Routed (length ops) (routed (entries ops) vni (tuple_of parcel).destination)
+
+-- a decision at this number
+abbrev pub IsAt : ℕ → Result Decision Behind → Type 0
+IsAt at (Ok d) = d.at ≡ at
+IsAt at (Err e) = ⊥
 
 -- a decision at this number, of the kind that the address asks for
 abbrev pub IsPassage : ℕ → Bool → Result GateDecision Behind → Type 0

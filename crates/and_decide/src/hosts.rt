@@ -6,7 +6,7 @@ ghost use Rattle.and_policy.specs.Fitting.{IsLog};
 ghost use Rattle.and_policy.specs.Frames.{fields};
 ghost use Rattle.and_policy.specs.Logs as logs;
 ghost use Rattle.and_policy.specs.Programmes.{entries};
-ghost use Rattle.and_decide.specs.Deciding.{AreRight, arrival, departure, net_of_key, rules_landing, rules_leaving};
+ghost use Rattle.and_decide.specs.Deciding.{AreRight, IsAt, arrival, departure, net_of_key, rules_landing, rules_leaving};
 
 use crate::asking::{remembered, tuple_of};
 use crate::behind::{Behind, reached};
@@ -26,13 +26,12 @@ fn decide<L: Ledger>(
     key: &FlowKey,
     steps: &mut Steps<L>,
 ) -> Decision
-    requires log { IsLog None (entries tables.now.ops) }
-    requires right { AreRight tables.now cache.now }
+    requires { AreRight tables.now cache.now }
     ensures at { result.at ≡ at }
-    ensures way { result.way ≡ caches.way tables.now.gateways cache.now tables.now.ops (length tables.now.ops) key.now }
-    ensures outcome { result.outcome ≡ caches.said tables.now.gateways tables.now.ops (length tables.now.ops) key.now }
+    ensures way { IsLog None (entries tables.now.ops) → result.way ≡ caches.way tables.now.gateways cache.now tables.now.ops (length tables.now.ops) key.now }
+    ensures outcome { IsLog None (entries tables.now.ops) → result.outcome ≡ caches.said tables.now.gateways tables.now.ops (length tables.now.ops) key.now }
     ensures fast { result.way ≡ Fast → steps.new ≡ steps.old }
-    ensures cost { steps.new ≤ steps.old + length (logs.rules (entries tables.now.ops) (net_of_key tables.now key.now)) }
+    ensures cost { IsLog None (entries tables.now.ops) → steps.new ≤ steps.old + length (logs.rules (entries tables.now.ops) (net_of_key tables.now key.now)) }
 {
     match remembered(tables, cache, key) {
         Some(outcome) => Decision {
@@ -49,9 +48,9 @@ fn decide<L: Ledger>(
 }
 
 /// What the tables' operations say of a parcel that leaves its VM. The way is fast exactly where the cache answered; then no rule is looked at, and
-/// otherwise each live rule of the VM's network at most once. The parcel's frame is one that `read_frame` accepts, as [`Parcel::make`] needs, the
-/// entries among the operations are a log, and each entry of the cache is what the first operations of these tables say, as many as its stamp.
-/// Takes no memory, and leaves the cache as it is.
+/// otherwise each live rule of the VM's network at most once. The parcel's frame is one that `read_frame` accepts, as [`Parcel::make`] needs, and
+/// each entry of the cache is what the first operations of these tables say, as many as its stamp. What is decided is the policy's where the entries
+/// among the operations are a log. Takes no memory, and leaves the cache as it is.
 ///
 /// # Errors
 ///
@@ -64,12 +63,12 @@ pub fn egress<L: Ledger>(
     steps: &mut Steps<L>,
 ) -> Result<Decision, Behind>
     requires frame { IsOk (fields parcel.now.frame) }
-    requires log { IsLog None (entries tables.now.ops) }
     requires right { AreRight tables.now cache.now }
     ensures behind { length tables.now.ops < need → result ≡ Err (record { at = length tables.now.ops }) }
-    ensures decision { need ≤ length tables.now.ops → result ≡ Ok (departure tables.now cache.now parcel.now) }
+    ensures number { need ≤ length tables.now.ops → IsAt (length tables.now.ops) result }
+    ensures decision { need ≤ length tables.now.ops → IsLog None (entries tables.now.ops) → result ≡ Ok (departure tables.now cache.now parcel.now) }
     ensures fast { IfOk result (λ d. d.way ≡ Fast → steps.new ≡ steps.old) }
-    ensures cost { steps.new ≤ steps.old + rules_leaving tables.now parcel.now }
+    ensures cost { IsLog None (entries tables.now.ops) → steps.new ≤ steps.old + rules_leaving tables.now parcel.now }
     ensures none { length tables.now.ops < need → steps.new ≡ steps.old }
 {
     let at = reached(tables.at(), need)?;
@@ -83,8 +82,8 @@ pub fn egress<L: Ledger>(
 
 /// What the tables' operations say of a parcel that has come into the network `vni`. The way is fast exactly where the cache answered; then no rule
 /// is looked at, and otherwise each live rule of the network at most once. The parcel's frame is one that `read_frame` accepts, as [`Parcel::make`]
-/// needs, the entries among the operations are a log, and each entry of the cache is what the first operations of these tables say, as many as its
-/// stamp. Takes no memory, and leaves the cache as it is.
+/// needs, and each entry of the cache is what the first operations of these tables say, as many as its stamp. What is decided is the policy's where
+/// the entries among the operations are a log. Takes no memory, and leaves the cache as it is.
 ///
 /// # Errors
 ///
@@ -98,12 +97,12 @@ pub fn ingress<L: Ledger>(
     steps: &mut Steps<L>,
 ) -> Result<Decision, Behind>
     requires frame { IsOk (fields parcel.now.frame) }
-    requires log { IsLog None (entries tables.now.ops) }
     requires right { AreRight tables.now cache.now }
     ensures behind { length tables.now.ops < need → result ≡ Err (record { at = length tables.now.ops }) }
-    ensures decision { need ≤ length tables.now.ops → result ≡ Ok (arrival tables.now cache.now vni parcel.now) }
+    ensures number { need ≤ length tables.now.ops → IsAt (length tables.now.ops) result }
+    ensures decision { need ≤ length tables.now.ops → IsLog None (entries tables.now.ops) → result ≡ Ok (arrival tables.now cache.now vni parcel.now) }
     ensures fast { IfOk result (λ d. d.way ≡ Fast → steps.new ≡ steps.old) }
-    ensures cost { steps.new ≤ steps.old + rules_landing tables.now vni }
+    ensures cost { IsLog None (entries tables.now.ops) → steps.new ≤ steps.old + rules_landing tables.now vni }
     ensures none { length tables.now.ops < need → steps.new ≡ steps.old }
 {
     let at = reached(tables.at(), need)?;

@@ -22,9 +22,8 @@ fn verdict<L: Ledger>(
     tuple: &Tuple,
     steps: &mut Steps<L>,
 ) -> Verdict
-    requires { IsLog None (entries tables.now.ops) }
-    ensures verdict { result ≡ egresses.verdict side tuple.now (logs.rules (entries tables.now.ops) net) }
-    ensures cost { steps.new ≤ steps.old + length (logs.rules (entries tables.now.ops) net) }
+    ensures verdict { IsLog None (entries tables.now.ops) → result ≡ egresses.verdict side tuple.now (logs.rules (entries tables.now.ops) net) }
+    ensures cost { IsLog None (entries tables.now.ops) → steps.new ≤ steps.old + length (logs.rules (entries tables.now.ops) net) }
 {
     first_match(tables.rules(net), tuple, side, steps)
 }
@@ -56,9 +55,8 @@ fn dest(tables: &HostTables, net: u32, tuple: &Tuple) -> Dest
 
 // What becomes of a packet that leaves the VM.
 fn leave<L: Ledger>(tables: &HostTables, vm: u32, tuple: &Tuple, steps: &mut Steps<L>) -> Leaving
-    requires { IsLog None (entries tables.now.ops) }
-    ensures leaving { result ≡ programmes.leaving tables.now.gateways tables.now.ops (length tables.now.ops) vm tuple.now }
-    ensures cost { steps.new ≤ steps.old + length (logs.rules (entries tables.now.ops) (programmes.own_net (logs.vm_of (entries tables.now.ops) vm))) }
+    ensures leaving { IsLog None (entries tables.now.ops) → result ≡ programmes.leaving tables.now.gateways tables.now.ops (length tables.now.ops) vm tuple.now }
+    ensures cost { IsLog None (entries tables.now.ops) → steps.new ≤ steps.old + length (logs.rules (entries tables.now.ops) (programmes.own_net (logs.vm_of (entries tables.now.ops) vm))) }
 {
     let Some(net) = tables.net_of(vm) else {
         return Leaving::NoVm;
@@ -84,9 +82,8 @@ fn leave<L: Ledger>(tables: &HostTables, vm: u32, tuple: &Tuple, steps: &mut Ste
 
 // What becomes of a packet that has come into the network.
 fn land<L: Ledger>(tables: &HostTables, net: u32, tuple: &Tuple, steps: &mut Steps<L>) -> Landing
-    requires { IsLog None (entries tables.now.ops) }
-    ensures landing { result ≡ ingresses.landing (programmes.prefix tables.now.ops (length tables.now.ops)) net tuple.now }
-    ensures cost { steps.new ≤ steps.old + length (logs.rules (entries tables.now.ops) net) }
+    ensures landing { IsLog None (entries tables.now.ops) → result ≡ ingresses.landing (programmes.prefix tables.now.ops (length tables.now.ops)) net tuple.now }
+    ensures cost { IsLog None (entries tables.now.ops) → steps.new ≤ steps.old + length (logs.rules (entries tables.now.ops) net) }
 {
     let Some(vm) = tables.owner(net, tuple.destination) else {
         return Landing::NoOwner;
@@ -105,9 +102,8 @@ pub(crate) fn look_up<L: Ledger>(
     key: &FlowKey,
     steps: &mut Steps<L>,
 ) -> Outcome
-    requires { IsLog None (entries tables.now.ops) }
-    ensures said { result ≡ caches.said tables.now.gateways tables.now.ops (length tables.now.ops) key.now }
-    ensures cost { steps.new ≤ steps.old + length (logs.rules (entries tables.now.ops) (net_of_key tables.now key.now)) }
+    ensures said { IsLog None (entries tables.now.ops) → result ≡ caches.said tables.now.gateways tables.now.ops (length tables.now.ops) key.now }
+    ensures cost { IsLog None (entries tables.now.ops) → steps.new ≤ steps.old + length (logs.rules (entries tables.now.ops) (net_of_key tables.now key.now)) }
 {
     match key.side {
         Side::Egress => Outcome::Leaving(leave(tables, key.scope, &key.tuple, steps)),

@@ -9,3 +9,4 @@ pub mod Stepping
 pub mod Ruling
 pub mod Cases
 pub mod Keeping
+pub mod Ordering

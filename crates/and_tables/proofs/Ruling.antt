@@ -212,9 +212,6 @@ least_sorted xs d =
     least_first (sorted rule_before xs) (ascends rule_before (λ (r : Rule). r.number) rule_order xs d)
     ∙ first_is_least rule_before (λ (r : Rule). r.number) rule_order (λ _. true) xs d ∙ ap (least rule_before) (whole xs)
 
-pub rulebook-ordered : (x : Rulebook) (k : List Entry) (net : ℕ) → IsRulebook x k → Ascends rule_before (sorted rule_before (rules k net))
-rulebook-ordered x k net is = ascends rule_before (λ (r : Rule). r.number) rule_order (rules k net) (differ rule_before (λ (r : Rule). r.number) (rules k net) (is.once net))
-
 pub rulebook-verdict : (x : Rulebook) (k : List Entry) (net : ℕ) (side : Side) (t : Tuple) → IsRulebook x k → verdict side t (sorted rule_before (rules k net)) ≡ verdict side t (rules k net)
 rulebook-verdict x k net side t is =
     let m : Rule → Bool = λ rule. is_side rule.side side && matches t rule in

@@ -2,6 +2,7 @@
 ghost use Rattle.and_tables.specs.Kept as kept;
 ghost use Rattle.and_tables.specs.Numbers.{at};
 ghost use Rattle.std.specs.Prelude.{◌≡◌, ◌<◌, ◌++◌, ◌∷◌, [], None, List, length, option_map, OnOk, OnErr};
+ghost use Rattle.std.specs.List.Sorted.{IsSortedBy};
 ghost use Rattle.and_policy.specs.declared.entry.Entry.{Entry};
 ghost use Rattle.and_policy.specs.declared.entry.Side.{Side};
 ghost use Rattle.and_policy.specs.declared.packet.Tuple.{Tuple};
@@ -11,7 +12,7 @@ ghost use Rattle.and_policy.specs.Logs as logs;
 ghost use Rattle.and_policy.specs.Owners as owners;
 ghost use Rattle.and_policy.specs.Programmes.{live, touched, entries};
 ghost use Rattle.and_policy.specs.Registers.{IsRegister, HasRoom};
-ghost use Rattle.and_policy.specs.Sorting.{sorted, Ascends};
+ghost use Rattle.and_policy.specs.Sorting.{sorted};
 ghost use Rattle.and_tables.specs.Books.{IsRulebook};
 
 use crate::index::Index;
@@ -173,10 +174,10 @@ impl HostTables {
         self.register.owner(net, ip)
     }
 
-    /// The live rules of the network, of both sides, by priority and number; none where there is no such network.
+    /// The live rules of the network, of both sides, by priority and number, whatever the operations are; none where there is no such network.
     pub fn rules(&self, net: u32) -> &[Rule]
         ensures rules { IsLog None (entries self.now.ops) → result.now ≡ sorted rule_before (logs.rules (entries self.now.ops) net) }
-        ensures ordered { IsLog None (entries self.now.ops) → Ascends rule_before result.now }
+        ensures ordered { IsSortedBy rule_before result.now }
         ensures verdict { IsLog None (entries self.now.ops) → (side : Side) (x : Tuple) → verdict side x result.now ≡ verdict side x (logs.rules (entries self.now.ops) net) }
     {
         self.rules.of(net)

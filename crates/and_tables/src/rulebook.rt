@@ -1,6 +1,7 @@
 //! The rules of all networks.
 ghost use Rattle.std.specs.Prelude.{◌≡◌, ◌<◌, ◌∷◌, ◌++◌, ◌==◌, not, ℕ, nat_eq, List, [], Some, None, cond, OnOk, OnErr};
 ghost use Rattle.std.specs.List.{filter};
+ghost use Rattle.std.specs.List.Sorted.{IsSortedBy};
 ghost use Rattle.std.specs.HashMap as hash;
 ghost use Rattle.and_policy.specs.declared.entry.Entry.{Entry};
 ghost use Rattle.and_policy.specs.declared.entry.Entry.TheVariants.{AddRule, DelRule};
@@ -109,7 +110,8 @@ impl Rulebook {
 
     /// The live rules of the network, by priority and number.
     pub(crate) fn of(&self, net: u32) -> &[Rule]
-        ensures { (k : List Entry) → IsRulebook self.now k → result.now ≡ sorted rule_before (logs.rules k net) }
+        ensures ordered { IsSortedBy rule_before result.now }
+        ensures rules { (k : List Entry) → IsRulebook self.now k → result.now ≡ sorted rule_before (logs.rules k net) }
     {
         match self.nets.get(&net) {
             Some(rules) => rules.as_slice(),

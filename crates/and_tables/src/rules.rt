@@ -1,6 +1,7 @@
 //! The rules of one network, in the order in which they are tried.
 ghost use Rattle.std.specs.Prelude.{◌≡◌, ◌≤◌, ◌==◌, not, length, [], OnOk, OnErr};
 ghost use Rattle.std.specs.List.{filter, insert};
+ghost use Rattle.std.specs.List.Sorted.{IsSortedBy};
 ghost use Rattle.and_policy.specs.Egress.{rule_before};
 ghost use Rattle.and_policy.specs.Sorting.{place};
 
@@ -8,7 +9,7 @@ use and_policy::{NoMemory, Rule};
 use std::alloc::Global;
 use std::marker::Model;
 
-/// The rules of one network by priority, then by number. Contracts see their list.
+/// The rules of one network by priority, then by number. Contracts see their list, which is always in this order.
 #[derive(Drop)]
 pub struct Rules {
     rules: Vec<Rule>,
@@ -16,11 +17,15 @@ pub struct Rules {
 
 impl Model for Rules {
     ghost use Rattle.std.specs.Prelude.{List};
+    ghost use Rattle.std.specs.List.Sorted.{IsSortedBy};
     ghost use Rattle.and_policy.specs.declared.entry.Rule.{Rule};
+    ghost use Rattle.and_policy.specs.Egress.{rule_before};
 
     ghost Value = { List Rule };
 
     ghost view = { λ r. r.rules.items };
+
+    ghost invariant = { λ r. IsSortedBy rule_before r.rules.items };
 }
 
 // Whether the rule is tried before the other.
@@ -81,7 +86,8 @@ impl Rules {
 
     /// The rules.
     pub(crate) fn as_slice(&self) -> &[Rule]
-        ensures { result.now ≡ self.now }
+        ensures rules { result.now ≡ self.now }
+        ensures ordered { IsSortedBy rule_before result.now }
     {
         &self.rules
     }

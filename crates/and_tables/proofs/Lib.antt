@@ -10,3 +10,4 @@ pub mod Ruling
 pub mod Cases
 pub mod Keeping
 pub mod Ordering
+pub mod Quiet

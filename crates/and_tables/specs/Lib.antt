@@ -5,3 +5,4 @@ pub mod Steps
 pub mod Books
 pub mod Kept
 pub mod Indexes
+pub mod Hints

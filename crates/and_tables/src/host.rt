@@ -15,10 +15,11 @@ ghost use Rattle.and_policy.specs.Registers.{IsRegister, HasRoom};
 ghost use Rattle.and_policy.specs.Sorting.{sorted};
 ghost use Rattle.and_tables.specs.Books.{IsRulebook};
 
+use crate::hints::{end_where, soonest_after};
 use crate::index::Index;
 use crate::maps::{last, last_of};
 use crate::rulebook::Rulebook;
-use crate::steps::{begin_order, end_orders, named, ticks_of};
+use crate::steps::{begin_order, named, ticks_of};
 use and_policy::{NoMemory, Op, Order, Register, Rule, Tables};
 use std::alloc::Global;
 use std::collections::HashMap;
@@ -214,10 +215,12 @@ impl Tables for HostTables {
         let here = self.ops.len() as u32 + 1;
         let ticks = self.ticks + ticks_of(&op);
         let name = named(&self.register, &op);
+        let ends = self.index.may_end(name, &op, ticks);
         note(&mut self.register, &op);
-        self.index.apply(&self.live, name, &op, ticks, here);
-        end_orders(&mut self.live, name, &op, ticks);
+        self.index.apply(ends, &self.live, name, &op, ticks, here);
+        end_where(ends, &mut self.live, name, &op, ticks);
         begin_order(&mut self.live, &op, ticks);
+        self.index.soonest = soonest_after(ends, self.index.soonest, &self.live, &op);
         self.ops.push_reserved(op);
         self.ticks = ticks;
         Ok(())

@@ -1,11 +1,14 @@
 //! What is looked up.
-ghost use Rattle.std.specs.Prelude.{◌≡◌, ◌<◌, ℕ, length, if◌then◌else◌, OnOk};
+ghost use Rattle.std.specs.Prelude.{◌≡◌, ◌<◌, ℕ, false, length, if◌then◌else◌, OnOk};
 ghost use Rattle.and_policy.specs.Programmes as programmes;
+ghost use Rattle.and_tables.specs.Hints as hints;
+ghost use Rattle.and_tables.specs.Hints.{marked_by};
 ghost use Rattle.and_tables.specs.Numbers.{at, at_pair};
 ghost use Rattle.and_tables.specs.Steps as step;
 ghost use Rattle.and_tables.specs.Indexes.{IsSameIndex, HasRoom};
 
-use crate::steps::{enter, order, own, touch_ended};
+use crate::hints::{mark, may_end, touch_where};
+use crate::steps::{enter, order, own};
 use and_policy::{NoMemory, Op, Order};
 use std::alloc::Global;
 use std::collections::HashMap;
@@ -19,6 +22,10 @@ pub struct Index {
     pub(crate) ordered: HashMap<(u32, u32), u32>,
     /// By network: the place of the last operation that touched it.
     pub(crate) touched: HashMap<u32, u32>,
+    /// By network: not 0 where a live order may be of or into it.
+    pub(crate) marks: HashMap<u32, u32>,
+    /// No live order is over before so many ticks.
+    pub(crate) soonest: u32,
 }
 
 impl Index {
@@ -32,6 +39,8 @@ impl Index {
             entered: HashMap::new(alloc),
             ordered: HashMap::new(alloc),
             touched: HashMap::new(alloc),
+            marks: HashMap::new(alloc),
+            soonest: u32::MAX,
         }
     }
 
@@ -46,27 +55,40 @@ impl Index {
         self.entered.reserve(1).map_err(|_| NoMemory)?;
         self.ordered.reserve(1).map_err(|_| NoMemory)?;
         self.touched.reserve(touched).map_err(|_| NoMemory)?;
+        self.marks.reserve(2).map_err(|_| NoMemory)?;
         Ok(())
     }
 
-    /// One operation more.
+    /// Whether the operation may end a live order.
+    pub(crate) fn may_end(&self, name: Option<u32>, op: &Op, ticks: u32) -> bool
+        ensures { result ≡ hints.may_end (at self.now.marks) (at_pair self.now.ordered) self.now.soonest name op.now ticks }
+    {
+        may_end(&self.marks, &self.ordered, self.soonest, name, op, ticks)
+    }
+
+    /// One operation more. Where it ends no live order, none is looked at.
     pub(crate) fn apply(
         &mut self,
+        ends: bool,
         live: &[Order],
         name: Option<u32>,
         op: &Op,
         ticks: u32,
         here: u32,
     )
-        requires { HasRoom (length live.now) self.old }
+        requires room { HasRoom (length live.now) self.old }
+        requires quiet { ends ≡ false → (net : ℕ) → step.ends_by name op.now ticks live.now net ≡ false }
         ensures entered { (net : ℕ) → at self.new.entered net ≡ (if programmes.is_net name net then here else at self.old.entered net) }
         ensures ordered { (net ip : ℕ) → at_pair self.new.ordered net ip ≡ (if programmes.orders_for net ip op.now then here else at_pair self.old.ordered net ip) }
         ensures touched { (net : ℕ) → at self.new.touched net
             ≡ (if programmes.is_net (step.own name op.now) net then here else (if step.ends_by name op.now ticks live.now net then here else at self.old.touched net)) }
+        ensures marks { (net : ℕ) → at self.new.marks net ≡ marked_by ends name op.now (at self.old.marks) net }
+        ensures soonest { self.new.soonest ≡ self.old.soonest }
     {
-        touch_ended(live, name, op, ticks, here, &mut self.touched);
+        touch_where(ends, live, name, op, ticks, here, &mut self.touched);
         enter(&mut self.touched, own(name, op), here);
         enter(&mut self.entered, name, here);
         order(&mut self.ordered, op, here);
+        mark(ends, &mut self.marks, name, op);
     }
 }

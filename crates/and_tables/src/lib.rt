@@ -4,6 +4,7 @@
 //! tables answer is promised where the entries among their operations are a log.
 #![tactic(auto)]
 
+mod hints;
 mod host;
 mod index;
 mod maps;

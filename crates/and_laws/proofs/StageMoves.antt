@@ -63,6 +63,7 @@ module _ (plan : Plan) (h : List Event) (e : Event) (a : Actor) (j : ℕ) (q' : 
             let old = given_up f.hands (hand_place plan.settings a) (hand_place plan.settings b) g kept in
             stage_same plan h e g.packet (about.others g.packet (not_in_hand b g kept)) (same g.packet) g.queue (node_of b) (st.hands b g isb tb old);
         unborn = still_unborn;
+        whole = λ i known none. ap (λ (c : Carried). c.hops) (same i) ∙ st.whole i known (sym (about.injected i) ∙ none);
       }
 
   -- the packet goes into a queue, with this known of it
@@ -93,6 +94,9 @@ module _ (plan : Plan) (h : List Event) (e : Event) (a : Actor) (j : ℕ) (q' : 
             let differs = not_in_hand b g kept in
             stage_same plan h e g.packet (about.others g.packet differs) (other g.packet differs) g.queue (node_of b) (st.hands b g isb tb old);
         unborn = still_unborn;
+        whole = λ i known none.
+            let before = sym (about.injected i) ∙ none in
+            ap (λ (c : Carried). c.hops) (other i (λ same. k.born (ap (injections h) same ∙ before))) ∙ st.whole i known before;
       }
 
 -- ---- takes
@@ -122,6 +126,7 @@ stages_take plan h b q j l st =
           stage_same plan h (Take b q j) g.packet (aside g.packet) refl g.queue (node_of a) (st.hands a g isa ta (taken_other f.hands x y _ g differs has)))
           (cases_eq x y);
       unborn = λ i none. undecided_kept plan h (Take b q j) i (aside i) (st.unborn i (omega (arith, none)));
+      whole = λ i known none. st.whole i known (omega (arith, none));
     }
 
 -- ---- injections
@@ -130,16 +135,17 @@ zero_more : (m n : ℕ) → m + n ≡ 0 → n ≡ 0
 zero_more m n e = omega (arith, e)
 
 -- a packet that was not injected before enters its host's queue, or is lost there
-pub stages_inject : (plan : Plan) (h : List Event) (step j : ℕ) (full : Bool) → Legal plan (state plan h) (Inject step j full) → injections h j ≡ 0 → Stages plan h → Stages plan (Inject step j full ∷ h)
+pub stages_inject : (plan : Plan) (h : List Event) (step j : ℕ) (full : Bool) → Legal plan (state plan h) (Inject step j full) → j < length plan.packets → injections h j ≡ 0 → Stages plan h → Stages plan (Inject step j full ∷ h)
 unfolding Legal state after move_of flow_after egresses passages_of injections injected_by
-stages_inject plan h step j true l none_yet st =
+stages_inject plan h step j true l known none_yet st =
     let aside : (i : ℕ) → IsAside plan h (Inject step j true) i = λ i. record { left = refl; routed = refl } in
     record {
       queues = λ i q node is has some. stage_same plan h (Inject step j true) i (aside i) refl q node (st.queues i q node is has some);
       hands = λ a g isa ta has. stage_same plan h (Inject step j true) g.packet (aside g.packet) refl g.queue (node_of a) (st.hands a g isa ta has);
       unborn = λ i none. undecided_kept plan h (Inject step j true) i (aside i) (st.unborn i (zero_more _ _ none));
+      whole = λ i known none. st.whole i known (zero_more _ _ none);
     }
-stages_inject plan h step j false l none_yet st =
+stages_inject plan h step j false l known none_yet st =
     let f = (state plan h).flow in
     let at_home = home plan (state plan h) j in
     let place = queue_place plan.settings (Host at_home) Out in
@@ -153,10 +159,11 @@ stages_inject plan h step j false l none_yet st =
           ⊎_elim (λ (old : 0 < count_in i (queue_at f.queues p)). kept i q node (st.queues i q node is has old))
           (λ (now : (p ≡ place) × (j ≡ i)).
           let at = same_queue plan.settings node (Host at_home) q Out is has is_home tt now.0 in
-          let here : StageAt plan h j Out node = st.unborn j none_yet in
+          let here : StageAt plan h j Out node = (st.unborn j none_yet, st.whole j known none_yet) in
           subst (λ k. StageAt plan (Inject step j false ∷ h) k q node) now.1
           (subst (λ z. StageAt plan (Inject step j false ∷ h) j z node) (sym at.is_queue) (kept j Out node here)))
           (pushed_in f.queues place j i p l.1.0 some);
       hands = λ a g isa ta has. kept g.packet g.queue (node_of a) (st.hands a g isa ta has);
       unborn = λ i none. undecided_kept plan h (Inject step j false) i (aside i) (st.unborn i (zero_more _ _ none));
+      whole = λ i known none. st.whole i known (zero_more _ _ none);
     }

@@ -1,6 +1,7 @@
 -- Along a run of a sound plan the stages of packets hold.
-use Rattle.std.proofs.Common.{◌≡◌, ℕ, ◌+◌, ◌<◌, Bool, true, false, List, [], ◌∷◌, refl, subst, arith, Some, replicate}
+use Rattle.std.proofs.Common.{ap, ◌≡◌, ℕ, ◌+◌, ◌<◌, Bool, true, false, List, [], ◌∷◌, refl, subst, arith, Some, replicate, length}
 use Rattle.std.proofs.lemmas.List.{get_or-replicate, get_or_past, length-replicate}
+use Rattle.std.proofs.lemmas.Option.{slice_get_within}
 use Rattle.std.proofs.lemmas.Grind.{common_steps}
 use Rattle.and_policy.specs.declared.decision.Way.{Way}
 use Rattle.and_events.specs.declared.event.Actor.{Actor}
@@ -24,7 +25,9 @@ use Rattle.and_events.specs.declared.event.Queue.{Queue}
 use Rattle.and_events.specs.declared.event.Queue.TheVariants.{Out, Wire, Seal}
 use Rattle.and_events.specs.declared.plan.Plan.{Plan}
 use Rattle.and_events.specs.Places.{queue_place, queue_count, hand_place, node_of, IsActor, IsNode, HasQueue, IsWorker}
-use Rattle.and_events.specs.Flow.{flow_after, queue_at, hand_at, sent, to_be_sealed}
+use Rattle.and_events.specs.declared.event.Carried.{Carried}
+use Rattle.and_events.specs.declared.plan.Step.TheVariants as steps
+use Rattle.and_events.specs.Flow.{flow_after, queue_at, hand_at, nothing_carried, sent, to_be_sealed}
 use Rattle.and_events.specs.State.{state, start, after, move_of, send, source_net, carried_at, node_at, dest_endpoint, dest_net}
 use Rattle.and_events.specs.Legal.{Legal, Decides, Sends}
 use Rattle.and_events.specs.Run.{Run, injections, injected_by}
@@ -43,6 +46,7 @@ use Rattle.and_laws.proofs.Queues.{wire_there}
 use Rattle.and_laws.proofs.Needs.{nothing_held}
 use Rattle.and_laws.proofs.Stages.{IsAside, About, led_kept, led_as_kept, stage_same, undecided_kept, Holder}
 use Rattle.and_laws.proofs.StageMoves.{stages_stop, stages_push, stages_take, stages_inject}
+use Rattle.and_laws.proofs.Steps.{does}
 use Rattle.and_laws.proofs.Trails.{about_egress, about_route, about_sealed, about_redirect, about_ingress, sealed_aside, redirect_aside, ingress_aside, egress_led, route_led, at_route, at_redirect, at_host}
 
 -- ---- what is known of an actor with a packet in hand
@@ -102,7 +106,7 @@ module _ (plan : Plan) (h : List Event) (a : Actor) (i at : ℕ) (way : Way) (k 
       let at_host = seals_at plan a l.0.actor l.1 in
       stages_push plan h (Egress a i at way d) a i Out k (about_egress plan h a i at way d) st (node_of a) Seal
       (to_be_sealed (carried_at (state plan h) i) (dest_net own dest) (dest_endpoint dest)) at_host.node at_host.queue refl
-      (egress_led plan h a i at way by true Queued k.stage dest l.2.0 right)
+      (egress_led plan h a i at way by true Queued k.stage.0 dest l.2.0 right, k.stage.1)
   egress_stages (Allowed by true dest Full) right l =
       stages_stop plan h (Egress a i at way (Allowed by true dest Full)) a i Out k (about_egress plan h a i at way (Allowed by true dest Full)) st refl
   egress_stages (Allowed by true dest Hops) right l =
@@ -110,14 +114,14 @@ module _ (plan : Plan) (h : List Event) (a : Actor) (i at : ℕ) (way : Way) (k 
   egress_stages (Allowed by false dest end) right l =
       let d = Allowed by false dest end in
       sent_on plan h (Egress a i at way d) a i Out (dest_net (source_net plan i) dest) (dest_endpoint dest) end k (about_egress plan h a i at way d) st l.2.2 refl
-      (egress_led plan h a i at way by false end k.stage dest l.2.0 right)
+      (egress_led plan h a i at way by false end k.stage.0 dest l.2.0 right)
 
 sealed_stages : (plan : Plan) (h : List Event) (a : Actor) (i : ℕ) (end : End) → Holder plan h a i Seal → Stages plan h → Legal plan (state plan h) (Sealed a i end) → Stages plan (Sealed a i end ∷ h)
 unfolding Legal state after move_of
 sealed_stages plan h a i end k st l =
     let c = carried_at (state plan h) i in
     sent_on plan h (Sealed a i end) a i Seal c.net c.target end k (about_sealed plan h a i end) st l.4 refl
-    (led_as_kept plan h (Sealed a i end) i (sealed_aside plan h a i end i) c.net c.target k.stage)
+    (led_as_kept plan h (Sealed a i end) i (sealed_aside plan h a i end i) c.net c.target k.stage.0)
 
 module _ (plan : Plan) (h : List Event) (a : Actor) (i at : ℕ) (k : Holder plan h a i Wire) (st : Stages plan h) where
   route_stages : (p : Passage) → Legal plan (state plan h) (Route a i at p) → Stages plan (Route a i at p ∷ h)
@@ -189,6 +193,7 @@ quiet_stages plan h e q st =
       queues = λ i p node is has some. stage_same plan h e i (aside i) refl p node (st.queues i p node is has some);
       hands = λ a g is t has. stage_same plan h e g.packet (aside g.packet) refl g.queue (node_of a) (st.hands a g is t has);
       unborn = λ i none. undecided_kept plan h e i (aside i) (st.unborn i (zero_less _ none));
+      whole = λ i known none. st.whole i known (zero_less _ none);
     }
 
 -- ---- runs
@@ -208,6 +213,9 @@ none_at_start plan =
       queues = λ i q node is has some. absurd (empty_queue (queue_count plan.settings) i (queue_place plan.settings node q) some);
       hands = λ a g is t has. absurd (nothing_held plan (hand_place plan.settings a) g has);
       unborn = λ i none. record { unleft = refl; unrouted = refl };
+      whole = λ i known none.
+          let at_first : Carried = record { hops = plan.settings.hop_limit; sealed = false; net = 0; target = endpoints.Host 0 } in
+          ap (λ (c : Carried). c.hops) (get_or-replicate (length plan.packets) i at_first nothing_carried known);
     }
 
 -- the injected packet was not injected before
@@ -215,11 +223,18 @@ first_time : (plan : Plan) (h : List Event) (step j : ℕ) (full : Bool) → IsS
 unfolding injections injected_by
 first_time plan h step j full sound r = let once = (injected_once plan (Inject step j full ∷ h) sound r).once j in grind (arith, common_steps, once)
 
+-- and is one of the plan's
+injected_is_known : (plan : Plan) (h : List Event) (step j : ℕ) (full : Bool) → IsSound plan → Legal plan (state plan h) (Inject step j full) → j < length plan.packets
+unfolding Legal
+injected_is_known plan h step j full sound l =
+    let d = does plan h step (steps.Inject j) sound l.0.0 l.0.1 in
+    slice_get_within plan.packets j d.fits.1.0 d.fits.1.1
+
 stages_so_far : (plan : Plan) (h : List Event) → IsSound plan → Run plan h → HasRightOffloads plan h → Stages plan h
 unfolding Run Legal HasRightOffloads
 stages_so_far plan [] sound r o = none_at_start plan
 stages_so_far plan (Inject step j full ∷ h) sound r o =
-    stages_inject plan h step j full r.1 (first_time plan h step j full sound r) (stages_so_far plan h sound r.0 o.0)
+    stages_inject plan h step j full r.1 (injected_is_known plan h step j full sound r.1) (first_time plan h step j full sound r) (stages_so_far plan h sound r.0 o.0)
 stages_so_far plan (Take a q j ∷ h) sound r o = stages_take plan h a q j r.1 (stages_so_far plan h sound r.0 o.0)
 stages_so_far plan (Egress a i at way d ∷ h) sound r o =
     let st = stages_so_far plan h sound r.0 o.0 in

@@ -63,9 +63,9 @@ module _ (plan : Plan) (h : List Event) (e : Event) (i : ℕ) (aside : IsAside p
   led_as_kept net (endpoints.Redirect g) led = led_kept net led
 
   stage_kept : (c : Carried) (q : Queue) (node : Node) → StageOf plan h i c q node → StageOf plan (e ∷ h) i c q node
-  stage_kept c Out node st = undecided_kept st
+  stage_kept c Out node st = (undecided_kept st.0, st.1)
   stage_kept c Wire node st = (led_as_kept c.net c.target st.0, st.1)
-  stage_kept c Seal node st = led_as_kept c.net c.target st
+  stage_kept c Seal node st = (led_as_kept c.net c.target st.0, st.1)
 
   pub stage_same : carried_at (state plan (e ∷ h)) i ≡ carried_at (state plan h) i → (q : Queue) (node : Node) → StageAt plan h i q node → StageAt plan (e ∷ h) i q node
   stage_same same q node st = subst (λ c. StageOf plan (e ∷ h) i c q node) (sym same) (stage_kept (carried_at (state plan h) i) q node st)

@@ -1,5 +1,5 @@
 -- Where a packet is says which decisions led it there.
-use Rattle.std.specs.Prelude.{◌≡◌, ℕ, ◌<◌, ◌==◌, List, [], Some}
+use Rattle.std.specs.Prelude.{◌≡◌, ℕ, ◌<◌, ◌==◌, List, [], Some, length}
 use Rattle.std.specs.List.{count_by}
 use Rattle.and_policy.specs.declared.decision.Dest.TheVariants.{Hover}
 use Rattle.and_events.specs.declared.event.Actor.{Actor}
@@ -61,11 +61,11 @@ LedAs plan h i net (endpoints.Route g) = IsForRoute plan h i net
 LedAs plan h i net (endpoints.Host host) = LedTo plan h i net
 LedAs plan h i net (endpoints.Redirect g) = LedTo plan h i net
 
--- what the decisions say of a packet in a queue of a node, or in hand from it
+-- what the decisions say of a packet in a queue of a node, or in hand from it. Until it is on the underlay it has all its hops
 abbrev pub StageOf : Plan → List Event → ℕ → Carried → Queue → Node → Type 0
-StageOf plan h i c Out node = IsUndecided plan h i
+StageOf plan h i c Out node = IsUndecided plan h i × (c.hops ≡ plan.settings.hop_limit)
 StageOf plan h i c Wire node = LedAs plan h i c.net c.target × (node_at c.target ≡ node)
-StageOf plan h i c Seal node = LedAs plan h i c.net c.target
+StageOf plan h i c Seal node = LedAs plan h i c.net c.target × (c.hops ≡ plan.settings.hop_limit)
 
 abbrev pub StageAt : Plan → List Event → ℕ → Queue → Node → Type 0
 StageAt plan h i q node = StageOf plan h i (carried_at (state plan h) i) q node
@@ -77,3 +77,4 @@ pub record Stages (plan : Plan) (h : List Event) : Type 0 where
   pub hands : (a : Actor) (g : Held) → IsActor plan.settings a → Takes a
       → hand_at (state plan h).flow.hands (hand_place plan.settings a) ≡ Some g → StageAt plan h g.packet g.queue (node_of a)
   pub unborn : (i : ℕ) → injections h i ≡ 0 → IsUndecided plan h i
+  pub whole : (i : ℕ) → i < length plan.packets → injections h i ≡ 0 → (carried_at (state plan h) i).hops ≡ plan.settings.hop_limit

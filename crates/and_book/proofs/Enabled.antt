@@ -186,12 +186,12 @@ module _ (plan : Plan) (s : State) where
 
     rested : IsAtRest plan s → IsStill s.programmes s.flow
     rested rest = record {
-      installed = installed_places (λ node is. rest.installed node is (free.install node));
+      installed = installed_places (λ node is. rest.installed node is (free.install node is));
       queues = λ k d l.
           let nothing : List ℕ = [] in
           let q = queue_of plan.settings k (omega (arith, l, sized.queues)) in
           get_or_default s.flow.queues k d nothing l
-          ∙ subst (λ p. queue_at s.flow.queues p ≡ []) q.place (rest.queues q.node q.queue q.is q.has (free.forward q.node));
+          ∙ subst (λ p. queue_at s.flow.queues p ≡ []) q.place (rest.queues q.node q.queue q.is q.has (free.forward q.node q.is));
       hands = rest.hands;
     }
 

@@ -46,6 +46,18 @@ search_nodes {Q} s P f =
     both hosts gates (Host k) is = hosts k is
     both hosts gates (Gate k) is = gates k is
 
+pub search_queues : {T : Type 0} (P : Queue → Type 0) → ((q : Queue) → P q ⊎ T) → ((q : Queue) → P q) ⊎ T
+search_queues {T} P f =
+    ⊎_elim
+    (λ (out : P Out).
+    ⊎_elim (λ (wire : P Wire). ⊎_elim (λ (seal : P Seal). inl (each out wire seal)) (λ (t : T). inr t) (f Seal)) (λ (t : T). inr t) (f Wire))
+    (λ (t : T). inr t) (f Out)
+  where
+    each : P Out → P Wire → P Seal → (q : Queue) → P q
+    each out wire seal Out = out
+    each out wire seal Wire = wire
+    each out wire seal Seal = seal
+
 -- ---- hands
 
 -- the actor whose hand is at the place

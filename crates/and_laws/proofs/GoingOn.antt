@@ -1,4 +1,4 @@
--- Where nothing is held, the condition of a step holds or an actor is enabled.
+-- The condition of `wait` or of the end holds, or an actor is enabled.
 use Rattle.std.proofs.Common.{◌≡◌, ℕ, suc, ◌+◌, ◌-◌, ◌*◌, ◌<◌, ◌≤◌, Bool, true, false, ◌||◌, cond, List, [], ◌∷◌, length, refl, sym, ap, ◌∙◌, subst, arith, Option, Some, None, ⊎_elim, inl, inr, ◌⊎◌}
 use Rattle.std.specs.Prelude.{◌==◌, option_map}
 use Rattle.std.specs.List.{All, list_any, find, position_from}
@@ -30,15 +30,14 @@ use Rattle.and_laws.specs.Progress.{GoesOn}
 use Rattle.and_laws.proofs.Sizes.{sizes}
 use Rattle.and_laws.proofs.Lives.{not_added}
 use Rattle.and_laws.proofs.Programmed.{programmed}
-use Rattle.and_laws.proofs.Queues.{queue_within}
-use Rattle.and_laws.proofs.Enabling.{search_below, search_nodes, hands_or, queue_or, install_or}
+use Rattle.and_laws.proofs.Enabling.{search_nodes, search_queues, hands_or, queue_or, install_or}
 
 -- ---- at rest, and over
 
--- nothing is held at a node
+-- nothing is held at a node of the plan
 pub record AreFree (plan : Plan) (s : State) : Type 0 where
-  pub install : (node : Node) → install_held plan s node ≡ false
-  pub forward : (node : Node) → forward_held plan s node ≡ false
+  pub install : (node : Node) → IsNode plan.settings node → install_held plan s node ≡ false
+  pub forward : (node : Node) → IsNode plan.settings node → forward_held plan s node ≡ false
 
 pub record QueueOf (s : Settings) (k : ℕ) : Type 0 where
   pub node : Node
@@ -59,86 +58,103 @@ queue_of s k l =
     (cases_lt k (2 * s.hosts)))
     (cases_lt k s.hosts)
 
-module _ (plan : Plan) (h : List Event) (sound : IsSound plan) (r : Run plan h) (free : AreFree plan (state plan h)) where
+module _ (plan : Plan) (h : List Event) (sound : IsSound plan) (r : Run plan h) where
   abbrev Goes : Type 0
   Goes = GoesOn plan (state plan h)
 
-  IsInstalledAt : Node → Type 0
+  abbrev IsInstalledAt : Node → Type 0
   IsInstalledAt node = installed_of plan (state plan h) node ≡ length (programme_of plan (state plan h) node)
 
-  all_installed : ((node : Node) → IsNode plan.settings node → IsInstalledAt node) ⊎ Goes
-  unfolding IsInstalledAt
-  all_installed = search_nodes plan.settings IsInstalledAt (λ node is. install_or plan h r node is (free.install node))
+  abbrev IsEmptyAt : Node → Queue → Type 0
+  IsEmptyAt node q = queue_at (state plan h).flow.queues (queue_place plan.settings node q) ≡ []
+
+  -- where its installs are not held, all is installed
+  installed_or : (node : Node) → IsNode plan.settings node → (b : Bool) → install_held plan (state plan h) node ≡ b → (b ≡ false → IsInstalledAt node) ⊎ Goes
+  installed_or node is true e = inl (λ f. absurd (cc))
+  installed_or node is false e = ⊎_elim (λ (l : IsInstalledAt node). inl (λ f. l)) (λ (g : Goes). inr g) (install_or plan h r node is e)
+
+  all_installed : ((node : Node) → IsNode plan.settings node → install_held plan (state plan h) node ≡ false → IsInstalledAt node) ⊎ Goes
+  all_installed =
+      search_nodes plan.settings (λ node. install_held plan (state plan h) node ≡ false → IsInstalledAt node)
+      (λ node is. installed_or node is (install_held plan (state plan h) node) refl)
 
   some_workers : 0 < plan.settings.workers
   some_workers = omega (arith, sound.settings.workers.0)
 
-  empty_at : ((k : ℕ) → hand_at (state plan h).flow.hands k ≡ None) → (k : ℕ) → k < queue_count plan.settings → (queue_at (state plan h).flow.queues k ≡ []) ⊎ Goes
-  empty_at none k l =
-      let q = queue_of plan.settings k l in
-      subst (λ p. (queue_at (state plan h).flow.queues p ≡ []) ⊎ Goes) q.place
-      (queue_or plan (state plan h) some_workers none q.node q.queue q.is q.has (free.forward q.node))
+  module _ (none : (k : ℕ) → hand_at (state plan h).flow.hands k ≡ None) where
+    -- where forwarding is not held, the queue is empty
+    empty_or : (node : Node) (q : Queue) → IsNode plan.settings node → HasQueue node q → (b : Bool) → forward_held plan (state plan h) node ≡ b → (b ≡ false → IsEmptyAt node q) ⊎ Goes
+    empty_or node q is has true e = inl (λ f. absurd (cc))
+    empty_or node q is has false e =
+        ⊎_elim (λ (l : IsEmptyAt node q). inl (λ f. l)) (λ (g : Goes). inr g) (queue_or plan (state plan h) some_workers none node q is has e)
 
-  all_empty : ((k : ℕ) → hand_at (state plan h).flow.hands k ≡ None) → ((k : ℕ) → k < queue_count plan.settings → queue_at (state plan h).flow.queues k ≡ []) ⊎ Goes
-  all_empty none = search_below (queue_count plan.settings) (λ k. queue_at (state plan h).flow.queues k ≡ []) (empty_at none)
+    abbrev AreEmptyAt : Node → Type 0
+    AreEmptyAt node = (q : Queue) → HasQueue node q → forward_held plan (state plan h) node ≡ false → IsEmptyAt node q
+
+    queue_empty : (node : Node) (q : Queue) → IsNode plan.settings node → (HasQueue node q → forward_held plan (state plan h) node ≡ false → IsEmptyAt node q) ⊎ Goes
+    queue_empty (Gate g) Out is = inl (λ has. absurd has)
+    queue_empty (Gate g) Seal is = inl (λ has. absurd has)
+    queue_empty (Gate g) Wire is =
+        ⊎_elim (λ (l : forward_held plan (state plan h) (Gate g) ≡ false → IsEmptyAt (Gate g) Wire). inl (λ has. l)) (λ (o : Goes). inr o)
+        (empty_or (Gate g) Wire is tt (forward_held plan (state plan h) (Gate g)) refl)
+    queue_empty (Host x) q is =
+        ⊎_elim (λ (l : forward_held plan (state plan h) (Host x) ≡ false → IsEmptyAt (Host x) q). inl (λ has. l)) (λ (o : Goes). inr o)
+        (empty_or (Host x) q is tt (forward_held plan (state plan h) (Host x)) refl)
+
+    node_empty : (node : Node) → IsNode plan.settings node → AreEmptyAt node ⊎ Goes
+    node_empty node is = search_queues (λ q. HasQueue node q → forward_held plan (state plan h) node ≡ false → IsEmptyAt node q) (λ q. queue_empty node q is)
+
+    all_empty : ((node : Node) → IsNode plan.settings node → AreEmptyAt node) ⊎ Goes
+    all_empty = search_nodes plan.settings AreEmptyAt node_empty
 
   no_hands : ((k : ℕ) → hand_at (state plan h).flow.hands k ≡ None) → All (λ o. o ≡ None) (state plan h).flow.hands
   no_hands none k d l = get_or_default (state plan h).flow.hands k d None l ∙ none k
 
-  -- nothing is left to do but for hairpins, or an actor is enabled
-  pub over_or : ((host vm : ℕ) → IsHairpin (port_at (state plan h).ports host vm) → ⊥) → IsOver plan (state plan h) ⊎ Goes
-  unfolding IsInstalledAt
-  over_or no_pins =
+  -- the condition of `wait` holds, or an actor is enabled
+  pub rest_or : IsAtRest plan (state plan h) ⊎ Goes
+  rest_or =
       ⊎_elim
-      (λ (installed : (node : Node) → IsNode plan.settings node → IsInstalledAt node).
+      (λ (installed : (node : Node) → IsNode plan.settings node → install_held plan (state plan h) node ≡ false → IsInstalledAt node).
       ⊎_elim
       (λ (none : (k : ℕ) → hand_at (state plan h).flow.hands k ≡ None).
       ⊎_elim
-      (λ (empty : (k : ℕ) → k < queue_count plan.settings → queue_at (state plan h).flow.queues k ≡ []).
+      (λ (empty : (node : Node) → IsNode plan.settings node → (q : Queue) → HasQueue node q → forward_held plan (state plan h) node ≡ false → IsEmptyAt node q).
+      inl (record { installed = installed; hands = no_hands none; queues = λ node q is has unheld. empty node is q has unheld }))
+      (λ (g : Goes). inr g) (all_empty none))
+      (λ (g : Goes). inr g) (hands_or plan (state plan h) (sizes plan h).hands))
+      (λ (g : Goes). inr g) all_installed
+
+  -- nothing is left to do but for hairpins, or an actor is enabled
+  pub over_or : AreFree plan (state plan h) → (((node : Node) → IsNode plan.settings node → IsInstalledAt node) → ((host vm : ℕ) → IsHairpin (port_at (state plan h).ports host vm) → ⊥) ⊎ Goes) → IsOver plan (state plan h) ⊎ Goes
+  over_or free pins =
+      ⊎_elim
+      (λ (rest : IsAtRest plan (state plan h)).
+      let installed : (node : Node) → IsNode plan.settings node → IsInstalledAt node = λ node is. rest.installed node is (free.install node is) in
+      ⊎_elim
+      (λ (no_pins : (host vm : ℕ) → IsHairpin (port_at (state plan h).ports host vm) → ⊥).
       inl (record {
         queues = λ k d l.
             let nothing : List ℕ = [] in
-            get_or_default (state plan h).flow.queues k d nothing l ∙ empty k (omega (arith, l, (sizes plan h).queues));
-        hands = no_hands none;
+            let q = queue_of plan.settings k (omega (arith, l, (sizes plan h).queues)) in
+            get_or_default (state plan h).flow.queues k d nothing l
+            ∙ subst (λ p. queue_at (state plan h).flow.queues p ≡ []) q.place (rest.queues q.node q.queue q.is q.has (free.forward q.node q.is));
+        hands = rest.hands;
         installed = installed;
         hairpins = no_pins;
       }))
-      (λ (g : Goes). inr g) (all_empty none))
-      (λ (g : Goes). inr g) (hands_or plan (state plan h) (sizes plan h).hands))
-      (λ (g : Goes). inr g) all_installed
-
-  -- the condition of `wait` holds, or an actor is enabled
-  pub rest_or : IsAtRest plan (state plan h) ⊎ Goes
-  unfolding IsInstalledAt
-  rest_or =
-      ⊎_elim
-      (λ (installed : (node : Node) → IsNode plan.settings node → IsInstalledAt node).
-      ⊎_elim
-      (λ (none : (k : ℕ) → hand_at (state plan h).flow.hands k ≡ None).
-      ⊎_elim
-      (λ (empty : (k : ℕ) → k < queue_count plan.settings → queue_at (state plan h).flow.queues k ≡ []).
-      inl (record {
-        installed = λ node is unheld. installed node is;
-        hands = no_hands none;
-        queues = λ node q is has unheld. empty (queue_place plan.settings node q) (queue_within plan.settings node q is has);
-      }))
-      (λ (g : Goes). inr g) (all_empty none))
-      (λ (g : Goes). inr g) (hands_or plan (state plan h) (sizes plan h).hands))
-      (λ (g : Goes). inr g) all_installed
+      (λ (g : Goes). inr g) (pins installed))
+      (λ (g : Goes). inr g) rest_or
 
   -- ---- VMs that a host knows
 
-  -- the host has the log installed, so it knows every VM that was added
-  pub knows_or : (host vm q : ℕ) → host < plan.settings.hosts → added_at (state plan h).programmes.log vm ≡ Some q → q ≤ length (state plan h).programmes.log → KnowsVm plan (state plan h) host vm ⊎ Goes
-  knows_or host vm q is_host is within =
+  -- a host that has the log installed knows every VM that was added
+  pub knows_all : (host vm q : ℕ) → host < plan.settings.hosts → added_at (state plan h).programmes.log vm ≡ Some q → q ≤ length (state plan h).programmes.log → IsInstalledAt (Host host) → KnowsVm plan (state plan h) host vm
+  knows_all host vm q is_host is within installed =
       let s = state plan h in
       let p = programme_of plan s (Host host) in
-      ⊎_elim
-      (λ (installed : installed_of plan s (Host host) ≡ length p).
       let whole : prefix p (installed_of plan s (Host host)) ≡ s.programmes.log =
       ap (prefix p) installed ∙ ap entries (take_all (length p) p (omega arith)) ∙ (programmed plan h r (Host host) is_host).log in
-      inl (q, is, is_host, omega (arith, within, ap (length {A = Entry}) whole)))
-      (λ (g : Goes). inr g) (install_or plan h r (Host host) is_host (free.install (Host host)))
+      (q, is, is_host, omega (arith, within, ap (length {A = Entry}) whole))
 
 -- ---- a live VM was added
 

@@ -1,5 +1,5 @@
 -- How many hairpins there are: only the end of a migration makes one.
-use Rattle.std.proofs.Common.{◌≡◌, ℕ, ◌+◌, ◌<◌, ◌≤◌, List, [], length, get_or, set, replicate, ap, arith, ⊎_elim}
+use Rattle.std.proofs.Common.{refl, ◌≡◌, ℕ, ◌+◌, ◌<◌, ◌≤◌, List, [], length, get_or, set, replicate, ap, arith, ⊎_elim}
 use Rattle.std.specs.List.{sum_by}
 use Rattle.std.proofs.lemmas.List.{set_past, get_or_past}
 use Rattle.std.proofs.lemmas.List.Sums.{sum_by-set}
@@ -7,7 +7,7 @@ use Rattle.std.proofs.lemmas.List.Folds.{sum_by-replicate}
 use Rattle.std.proofs.lemmas.Bool.{cases_lt}
 use Rattle.and_policy.specs.declared.port.Port.{Port}
 use Rattle.and_policy.specs.declared.port.Port.TheVariants.{Absent, Running, Paused, Arriving, Hairpin}
-use Rattle.and_events.specs.Ports.{PortMove, Unmoved, Boot, Halt, Pause, Arrive, Unpinned, ports_after, ports_of, port_at, with_port}
+use Rattle.and_events.specs.Ports.{IsHairpin, PortMove, Unmoved, Boot, Halt, Pause, Arrive, Unpinned, ports_after, ports_of, port_at, with_port}
 
 -- a hairpin counts one
 abbrev pub pin : Port → ℕ
@@ -53,12 +53,12 @@ port_set ports host vm port = row_set ports vm (set (ports_of ports vm) host por
 none_absent : (n : ℕ) → pins (replicate n Absent) ≡ 0
 none_absent n = omega (arith, sum_by-replicate pin n Absent)
 
-pin_within : (ports : List Port) (host : ℕ) → pin (get_or ports host Absent) ≡ 1 → host < length ports
+pub pin_within : (ports : List Port) (host : ℕ) → pin (get_or ports host Absent) ≡ 1 → host < length ports
 pin_within ports host some =
     ⊎_elim (λ (l : host < length ports). l)
     (λ (l : length ports ≤ host). absurd (omega (arith, some, ap pin (get_or_past ports host Absent l)))) (cases_lt host (length ports))
 
-row_within : (ports : List (List Port)) (host vm : ℕ) → pin (port_at ports host vm) ≡ 1 → vm < length ports
+pub row_within : (ports : List (List Port)) (host vm : ℕ) → pin (port_at ports host vm) ≡ 1 → vm < length ports
 row_within ports host vm some =
     let none : List Port = [] in
     ⊎_elim (λ (l : vm < length ports). l)
@@ -84,3 +84,10 @@ hairpins_after ports (Pause vm old new) t = omega (arith, port_set ports old vm 
 hairpins_after ports (Arrive vm old new entry) t =
     omega (arith, port_set ports old vm (Hairpin new entry), port_set (with_port ports old vm (Hairpin new entry)) new vm Running)
 hairpins_after ports (Unpinned host vm) t = omega (arith, unpin ports host vm t)
+
+pub hairpin_pins : (port : Port) → IsHairpin port → pin port ≡ 1
+hairpin_pins (Hairpin to entry) is = refl
+hairpin_pins Absent is = absurd is
+hairpin_pins Running is = absurd is
+hairpin_pins Paused is = absurd is
+hairpin_pins Arriving is = absurd is

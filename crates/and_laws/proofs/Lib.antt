@@ -45,5 +45,8 @@ pub mod Hands
 pub mod Enabling
 pub mod GoingOn
 pub mod Unstuck
+pub mod Holding
+pub mod Knowing
+pub mod Standing
 pub mod Deciding
 pub mod Counted

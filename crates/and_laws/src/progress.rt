@@ -3,13 +3,12 @@ ghost use Rattle.std.specs.Prelude.{◌<◌, List, length};
 ghost use Rattle.and_events.specs.declared.event.Event.{Event};
 ghost use Rattle.and_events.specs.declared.plan.Plan.{Plan};
 ghost use Rattle.and_events.specs.Run.{Run};
-ghost use Rattle.and_events.specs.Sound.{IsBuilt, IsSound};
+ghost use Rattle.and_events.specs.Sound.{IsSound};
 ghost use Rattle.and_events.specs.State.{state};
 ghost use Rattle.and_laws.specs.Progress.{GoesOn};
 
-/// Until the last step of the plan is done some actor is enabled. This is said of the plans that the program runs so far, in which
-/// nothing is held and no VM moves.
+/// Until the last step of the plan is done some actor is enabled, whatever is held and whichever VMs move.
 #[tactic(auto, using(crate::proofs::Unstuck::goes_on))]
 pub fn runs_go_on()
-    ensures { (plan : Plan) (h : List Event) → IsSound plan → IsBuilt plan → Run plan h → (state plan h).next < length plan.steps → GoesOn plan (state plan h) }
+    ensures { (plan : Plan) (h : List Event) → IsSound plan → Run plan h → (state plan h).next < length plan.steps → GoesOn plan (state plan h) }
 {}

@@ -60,7 +60,7 @@ all_installed plan h a node built r first behind is =
     let same : announced_of plan s node ≡ installed_of plan s node = omega (arith, l, p.installed) in
     ⊎_elim
     (λ (m : announced_of plan s node < length (programme_of plan s node)).
-    let can : CanAnnounce plan s node = (is, (are_free plan h built r).install node, same, m) in
+    let can : CanAnnounce plan s node = (is, (are_free plan h built r).install node is, same, m) in
     absurd (omega (arith, behind, number, first (installer_of node) (is_installer plan.settings node is) (may_announce plan s node can))))
     (λ (m : length (programme_of plan s node) ≤ announced_of plan s node). omega (arith, same, m, p.announced))
     (cases_lt (announced_of plan s node) (length (programme_of plan s node))))

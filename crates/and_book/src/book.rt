@@ -10,8 +10,9 @@ ghost use Rattle.and_book.specs.Views.{held};
 
 use crate::nets::nets_of;
 use and_events::{Line, Plan};
-use and_kept::{PortTable, Progress, Traffic};
+use and_kept::{Progress, Traffic};
 use and_policy::NoMemory;
+use and_ports::Ports;
 use std::alloc::Global;
 use std::marker::Model;
 
@@ -23,7 +24,7 @@ pub struct Book {
     pub(crate) lines: Vec<Line>,
     pub(crate) next: u32,
     pub(crate) progress: Progress,
-    pub(crate) ports: PortTable,
+    pub(crate) ports: Ports,
     pub(crate) traffic: Traffic,
     pub(crate) nets: Vec<u32>,
 }
@@ -55,7 +56,7 @@ impl Book {
         let traffic = Traffic::make(alloc, settings, plan.packets.len())?;
         let nodes = settings.hosts as usize + settings.gateways as usize;
         let progress = Progress::make(alloc, nodes, plan.log.len() as u32, plan.names.len())?;
-        let ports = PortTable::make(alloc, plan.names.len(), settings.hosts as usize)?;
+        let ports = Ports::make(alloc, settings.hosts, plan.names.len() as u32)?;
         let nets = nets_of(alloc, plan.log.as_slice(), plan.names.len())?;
         Ok(Book {
             plan,

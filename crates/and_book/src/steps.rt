@@ -9,9 +9,9 @@ ghost use Rattle.and_book.specs.Views.{now, held, IsSeat, with_line, IsPacket, I
 
 use crate::book::Book;
 use and_events::{Event, Items, Line, Step};
-use and_kept::PortTable;
 use and_parcel::Parcel;
 use and_policy::Entry;
+use and_ports::Ports;
 
 impl Book {
     /// The entry of the step that is due goes to the log and to every programme.
@@ -98,11 +98,11 @@ fn due_entry(steps: &Items<Step>, step: u32) -> Entry
 
 // The ports after a log entry.
 #[tactic(auto, unfolding(and_events::specs::Ports::ports_after))]
-fn note_ports(ports: &mut PortTable, entry: Entry)
+fn note_ports(ports: &mut Ports, entry: Entry)
     requires { IsBuiltEntry entry }
     ensures { ports.new ≡ ports_after ports.old (ports_move_of_entry entry) }
 {
     if let Entry::AddVm { vm, host, .. } = entry {
-        ports.boot(host as usize, vm as usize);
+        ports.boot(host, vm);
     }
 }

@@ -3,7 +3,6 @@ pub mod LanesLemmas
 pub mod HandsLemmas
 pub mod HomesLemmas
 pub mod NodesLemmas
-pub mod PortsLemmas
 pub mod MovesLemmas
 pub mod NumbersLemmas
 pub mod BusyLemmas

@@ -2,15 +2,15 @@
 //!
 //! [`Traffic`] has the packets: bounded queues of parcels, what each actor has in hand, and what is known of each packet
 //! on its way. [`Progress`] has the log and each node's programme, with how much of it is announced and installed.
-//! [`PortTable`] has the ports of the VMs. Each method is one change of the definition's state, and says so: what
-//! contracts see after it is what the definition makes of what they saw before it.
+//! Each method is one change of the definition's state, and says so: what contracts see after it is what the definition
+//! makes of what they saw before it.
 //!
 //! Counts of what is not empty, not free or not installed are kept beside the parts, so that no question about all of
 //! them takes a pass; and so are the set of the nodes whose installers may act and the set of the hands that have work. A set
 //! is looked at a word of 64 numbers at a time. No call but `make` takes memory.
 //!
-//! It stands on `and_events`, whose components these are, on `and_parcel` for the parcels, and on `and_policy` for the
-//! entries of the log.
+//! It stands on `and_events`, whose components these are, on `and_parcel` for the parcels, on `and_ports` for the ports of
+//! the VMs, and on `and_policy` for the entries of the log.
 #![tactic(auto)]
 
 mod busy;
@@ -21,7 +21,6 @@ mod homes;
 mod nodes;
 mod numbers;
 mod outers;
-mod ports;
 mod programme;
 mod progress;
 mod queues;
@@ -29,7 +28,6 @@ mod settling;
 mod traffic;
 
 pub use numbers::NumberSet;
-pub use ports::PortTable;
 pub use progress::Progress;
 pub use settling::{settle_gate, settle_landing, settle_leaving};
 pub use traffic::{Holder, Traffic};

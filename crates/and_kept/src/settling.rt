@@ -8,11 +8,11 @@ ghost use Rattle.and_events.specs.State as states;
 ghost use Rattle.and_kept.specs.Settling.{end_to, passage_of, return_of, LeadsRouted, LeadsLocated, LeadsGate, gate_event, gate_move, arrival_at, arrival_of, LeadsPort, LeadsLanding, departure_of, LeadsLeaving};
 ghost use Rattle.and_kept.specs.Moves.{MayMove, hand_of, moved};
 
-use crate::ports::PortTable;
 use crate::traffic::{Holder, Traffic};
 use and_events::{Arrival, Departure, End, Endpoint, Event, Passage, Return, host_of, node_of};
 use and_parcel::Parcel;
 use and_policy::{Dest, GateDecision, Landing, Leaving, Located, Name, Port, Routed};
+use and_ports::Ports;
 
 // Passes a packet at a gateway on, or lets it go, as the routes say.
 fn pass(traffic: &mut Traffic, from: Holder, parcel: Parcel, said: Routed) -> Passage
@@ -169,7 +169,7 @@ fn arrive(
 /// What a host worker's decision does with the packet in its hand that has come for a VM.
 pub fn settle_landing(
     traffic: &mut Traffic,
-    ports: &PortTable,
+    ports: &Ports,
     from: Holder,
     parcel: Parcel,
     said: Landing,
@@ -185,7 +185,7 @@ pub fn settle_landing(
             Arrival::NoOwner
         }
         Landing::Owned { vm, by, pass } => {
-            let port = ports.at(host_of(node_of(from.actor)) as usize, vm as usize);
+            let port = ports.state(host_of(node_of(from.actor)), vm);
             arrive(traffic, port, from, parcel, vm, by, pass)
         }
     }

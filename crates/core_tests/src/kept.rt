@@ -2,9 +2,10 @@
 ghost use Rattle.std.specs.Prelude.{◌<◌};
 
 use and_events::Settings;
-use and_kept::{PortTable, Progress, Traffic};
+use and_kept::{Progress, Traffic};
 use and_parcel::Parcel;
 use and_policy::{Entry, Port};
+use and_ports::Ports;
 use std::test::Fail;
 
 /// A TCP segment without payload from 10.0.0.1 port 4096 to 10.0.0.2 port 80.
@@ -79,11 +80,9 @@ fn a_vm_is_where_its_last_entry_says(rt: HostRuntime) -> Result<(), Fail> {
 
 #[test]
 fn ports(rt: HostRuntime) -> Result<(), Fail> {
-    let mut table = PortTable::make(rt.alloc(), 2, 2)
-        .ok()
-        .ok_or("there is memory")?;
+    let mut table = Ports::make(rt.alloc(), 2, 2).ok().ok_or("there is memory")?;
     table.boot(1, 0);
-    assert!(rt; table.at(1, 0) == Port::Running && table.at(0, 0) == Port::Absent);
-    assert!(rt; table.at(1, 1) == Port::Absent && table.at(2, 0) == Port::Absent);
+    assert!(rt; table.state(1, 0) == Port::Running && table.state(0, 0) == Port::Absent);
+    assert!(rt; table.state(1, 1) == Port::Absent && table.state(2, 0) == Port::Absent);
     Ok(())
 }

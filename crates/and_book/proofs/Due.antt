@@ -1,11 +1,9 @@
 -- In a run of a built plan an actor may act by what is kept where it is enabled; and the packet of the step that is due is one of a VM with a name.
-use Rattle.std.proofs.Common.{ℕ, ◌+◌, ◌<◌, ◌≤◌, Bool, true, false, ⊎_elim, arith}
-use Rattle.std.proofs.lemmas.Bool.{cases_lt}
-use Rattle.and_events.specs.Ordered.{IsFirst}
+use Rattle.std.proofs.Common.{false}
 use Rattle.and_events.specs.Places.{actor_number, actor_count, IsActor}
-use Rattle.and_book.specs.Enabling.{acts_at}
-use Rattle.and_book.specs.Views.{NoneEnabled}
-use Rattle.and_book.proofs.Numbered.{at_number, at_acts, number_below}
+use Rattle.and_kept.specs.Numbers.{count_below}
+use Rattle.and_book.specs.Enabling.{acts_at, acts_by}
+use Rattle.and_book.proofs.Numbered.{at_number, at_acts}
 use Rattle.std.proofs.Common.{◌≡◌, ℕ, ◌<◌, Bool, true, List, length, sym, ap, ◌∙◌, refl, subst, Option, Some, None}
 use Rattle.std.specs.Prelude.{slice_get, unwrap_or, ◌↔◌, ◌==◌, IsTrue}
 use Rattle.std.proofs.lemmas.Option.{unwrap_or-slice_get, slice_get_within}
@@ -125,39 +123,28 @@ module _ (plan : Plan) (h : List Event) (sound : IsSound plan) (built : IsBuilt 
 
   -- ---- by number
 
-  pub acts_as_kept : (k : Kept) → k.roads.settings ≡ plan.settings → Stands k s → (driver : Bool) (n : ℕ) → acts_at k.roads.settings k.progress.programmes (holds_of k) k.roads.flow driver n ≡ acts_at plan.settings s.programmes s.node_holds s.flow driver n
-  acts_as_kept k settings st driver n =
-      ap (λ v. acts_at v k.progress.programmes (holds_of k) k.roads.flow driver n) settings
-      ∙ (ap (λ p. acts_at plan.settings p (holds_of k) k.roads.flow driver n) st.programmes
-      ∙ (ap (λ m. acts_at plan.settings s.programmes m k.roads.flow driver n) st.holds ∙ ap (λ f. acts_at plan.settings s.programmes s.node_holds f driver n) st.flow))
+  abbrev pub acts_now : Bool → ℕ → Bool
+  acts_now driver = acts_at plan.settings s.programmes s.node_holds s.flow driver
 
-  pub drives_kept : (k : Kept) → k.roads.settings ≡ plan.settings → Stands k s → (due : Option Step) → due ≡ slice_get plan.steps s.next → (driver : Bool) → (IsTrue driver ↔ CanDo k.roads.settings plan.packets k.progress.programmes k.roads.flow due)
-      → IsTrue driver ↔ CanDo plan.settings plan.packets s.programmes s.flow (slice_get plan.steps s.next)
-  drives_kept k settings st due is driver drives =
-      subst (λ o. IsTrue driver ↔ CanDo plan.settings plan.packets s.programmes s.flow o) is
-      (subst (λ f. IsTrue driver ↔ CanDo plan.settings plan.packets s.programmes f due) st.flow
-      (subst (λ p. IsTrue driver ↔ CanDo plan.settings plan.packets p k.roads.flow due) st.programmes
-      (subst (λ v. IsTrue driver ↔ CanDo v plan.packets k.progress.programmes k.roads.flow due) settings drives)))
+  pub acts_as_kept : (k : Kept) → k.roads.settings ≡ plan.settings → Stands k s → (driver : Bool) → acts_by k.progress k.roads driver ≡ acts_now driver
+  acts_as_kept k settings st driver =
+      ap (λ v. acts_at v k.progress.programmes (holds_of k) k.roads.flow driver) settings
+      ∙ (ap (λ p. acts_at plan.settings p (holds_of k) k.roads.flow driver) st.programmes
+      ∙ (ap (λ m. acts_at plan.settings s.programmes m k.roads.flow driver) st.holds ∙ ap (λ f. acts_at plan.settings s.programmes s.node_holds f driver) st.flow))
 
-  module _ (driver : Bool) (drives : IsTrue driver ↔ CanDo plan.settings plan.packets s.programmes s.flow (slice_get plan.steps s.next)) where
-    abbrev ActsAt : ℕ → Bool
-    ActsAt n = acts_at plan.settings s.programmes s.node_holds s.flow driver n
+  pub counted_as_kept : (k : Kept) → k.roads.settings ≡ plan.settings → Stands k s → (driver : Bool) → count_below (acts_by k.progress k.roads driver) (actor_count k.roads.settings) ≡ count_below (acts_now driver) (actor_count plan.settings)
+  counted_as_kept k settings st driver =
+      ap (λ p. count_below p (actor_count k.roads.settings)) (acts_as_kept k settings st driver) ∙ ap (λ v. count_below (acts_now driver) (actor_count v)) settings
 
-    -- an actor whose number acts is enabled
-    pub enabled_at : (a : Actor) → IsActor plan.settings a → ActsAt (actor_number plan.settings a) ≡ true → Enabled plan s a
-    enabled_at a is e = may_act a (is, at_acts plan.settings plan.packets s.programmes s.node_holds s.flow (slice_get plan.steps s.next) driver drives a is e)
+  module _ (driver : Bool) (drives : IsTrue driver ↔ Enabled plan s Driver) where
+    does_as : IsTrue driver ↔ CanDo plan.settings plan.packets s.programmes s.flow (slice_get plan.steps s.next)
+    does_as = ((λ t. (may_act_of Driver (drives.0 t)).1), (λ can. drives.1 (may_act Driver (tt, can))))
 
-    -- so no enabled actor is among numbers that do not act
-    pub not_enabled_at : (a : Actor) → IsActor plan.settings a → ActsAt (actor_number plan.settings a) ≡ false → Enabled plan s a → ⊥
+    -- an actor whose number acts is enabled, and no other one
+    pub enabled_at : (a : Actor) → IsActor plan.settings a → acts_now driver (actor_number plan.settings a) ≡ true → Enabled plan s a
+    enabled_at a is e = may_act a (is, at_acts plan.settings plan.packets s.programmes s.node_holds s.flow (slice_get plan.steps s.next) driver does_as a is e)
+
+    pub not_enabled_at : (a : Actor) → IsActor plan.settings a → acts_now driver (actor_number plan.settings a) ≡ false → Enabled plan s a → ⊥
     not_enabled_at a is e enabled =
-        let acts = at_number plan.settings plan.packets s.programmes s.node_holds s.flow (slice_get plan.steps s.next) driver drives a (may_act_of a enabled).0 (may_act_of a enabled).1 in
+        let acts = at_number plan.settings plan.packets s.programmes s.node_holds s.flow (slice_get plan.steps s.next) driver does_as a (may_act_of a enabled).0 (may_act_of a enabled).1 in
         absurd (let clash : true ≡ false = sym acts ∙ e in cc)
-
-    pub is_first : (n : ℕ) (a : Actor) → ((j : ℕ) → j < n → ActsAt j ≡ false) → actor_number plan.settings a ≡ n → IsFirst plan s a
-    is_first n a least number b is enabled =
-        ⊎_elim (λ (early : actor_number plan.settings b < n). absurd (not_enabled_at b is (least (actor_number plan.settings b) early) enabled))
-        (λ (late : n ≤ actor_number plan.settings b). omega (arith, number, late)) (cases_lt (actor_number plan.settings b) n)
-
-    pub none_enabled : (n : ℕ) → ((j : ℕ) → j < n → ActsAt j ≡ false) → actor_count plan.settings ≤ n → NoneEnabled plan s
-    none_enabled n least all a is enabled =
-        not_enabled_at a is (least (actor_number plan.settings a) (omega (arith, number_below plan.settings a is, all))) enabled

@@ -20,5 +20,6 @@ pub mod Settling
 pub mod Enabled
 pub mod Numbered
 pub mod Due
+pub mod Listing
 pub mod Next
 pub mod Telling

@@ -1,9 +1,8 @@
 -- Who acts, by the number of the actor.
-use Rattle.std.proofs.Common.{◌≡◌, ℕ, ◌+◌, ◌-◌, ◌*◌, ◌<◌, ◌≤◌, ◌↔◌, ◌&&◌, Bool, true, false, List, refl, sym, ap, ◌∙◌, subst, arith, Option, ⊎_elim}
-use Rattle.std.specs.Prelude.{◌==◌, nat_lt, if◌then◌else◌, IsTrue}
-use Rattle.std.proofs.lemmas.Bool.{eq-eqb, cases_lt}
+use Rattle.std.proofs.Common.{◌≡◌, ℕ, ◌+◌, ◌-◌, ◌<◌, ◌≤◌, ◌↔◌, ◌&&◌, Bool, true, false, List, refl, sym, ap, ◌∙◌, arith, Option}
+use Rattle.std.specs.Prelude.{◌==◌, nat_lt, IsTrue}
+use Rattle.std.proofs.lemmas.Bool.{eq-eqb}
 use Rattle.std.proofs.lemmas.Grind.{common_steps}
-use Rattle.std.proofs.lemmas.Nat.{mul-add-lt}
 use Rattle.and_events.specs.declared.event.Actor.{Actor}
 use Rattle.and_events.specs.declared.event.Actor.TheVariants.{HostInstall, GateInstall, Worker, Coproc, Gateway, Controller, Driver}
 use Rattle.and_events.specs.declared.plan.Packet.{Packet}
@@ -14,9 +13,10 @@ use Rattle.and_events.specs.Places.{node_count, hand_count, hand_place, actor_nu
 use Rattle.and_events.specs.Programming.{Programmes}
 use Rattle.and_events.specs.State.{NodeHolds}
 use Rattle.and_kept.specs.Busy.{is_busy}
-use Rattle.and_kept.specs.Moves.{IsBusy}
 use Rattle.and_kept.specs.Nodes.{is_ready}
+use Rattle.and_kept.specs.Numbers.{count_below, one_if}
 use Rattle.and_kept.proofs.BusyActors.{busy_is}
+use Rattle.and_kept.proofs.NumbersLemmas.{count_same, count_shift, count_suc}
 use Rattle.and_book.specs.Enabling.{Acts, CanDo, acts_at}
 use Rattle.and_book.proofs.Taking.{hand_there}
 
@@ -89,26 +89,31 @@ module _ (v : Settings) (packets : List Packet) (p : Programmes) (m : NodeHolds)
   at_acts Controller is e = absurd (let clash : true ≡ false = sym e ∙ at_controller v p m f driver in cc)
   at_acts Driver is e = drives.0 (sym (at_driver v p m f driver) ∙ e)
 
--- ---- none before
+-- ---- how many act
 
 module _ (v : Settings) (p : Programmes) (m : NodeHolds) (f : Flow) (driver : Bool) where
-  abbrev pub NoneActs : ℕ → Type 0
-  NoneActs n = (j : ℕ) → j < n → acts_at v p m f driver j ≡ false
+  abbrev acts : ℕ → Bool
+  acts = acts_at v p m f driver
 
-  pub none_nodes : (n : ℕ) → n ≤ node_count v → ((j : ℕ) → j < n → is_ready p m.install j ≡ false) → NoneActs n
-  none_nodes n le none j l = at_node v p m f driver j (omega (arith, le, l)) ∙ none j l
+  pub nodes_counted : (n : ℕ) → n ≤ node_count v → count_below acts n ≡ count_below (is_ready p m.install) n
+  nodes_counted n le = count_same acts (is_ready p m.install) n (λ j l. at_node v p m f driver j (omega (arith, le, l)))
 
-  pub none_hands : (k : ℕ) → k ≤ hand_count v → NoneActs (node_count v) → ((j : ℕ) → j < k → is_busy v f.queues f.hands m.forward j ≡ false) → NoneActs (node_count v + k)
-  none_hands k le nodes none j l =
-      ⊎_elim (λ (early : j < node_count v). nodes j early)
-      (λ (late : node_count v ≤ j).
-      let same : node_count v + (j - node_count v) ≡ j = omega (arith, late) in
-      subst (λ n. acts_at v p m f driver n ≡ false) same
-      (at_hand v p m f driver (j - node_count v) (omega (arith, late, l, le)) ∙ none (j - node_count v) (omega (arith, late, l))))
-      (cases_lt j (node_count v))
+  pub hands_counted : (k : ℕ) → k ≤ hand_count v → count_below acts (node_count v + k) ≡ count_below (is_ready p m.install) (node_count v) + count_below (is_busy v f.queues f.hands m.forward) k
+  hands_counted k le =
+      count_shift acts (is_busy v f.queues f.hands m.forward) (node_count v) k (λ j l. at_hand v p m f driver j (omega (arith, le, l)))
+      ∙ ap (λ n. n + count_below (is_busy v f.queues f.hands m.forward) k) (nodes_counted (node_count v) (omega arith))
 
-  pub none_more : (n : ℕ) → NoneActs n → acts_at v p m f driver n ≡ false → NoneActs (n + 1)
-  none_more n none here j l =
-      ⊎_elim (λ (early : j < n). none j early)
-      (λ (late : n ≤ j). let same : n ≡ j = omega (arith, late, l) in subst (λ k. acts_at v p m f driver k ≡ false) same here)
-      (cases_lt j n)
+  -- before the driver, and in all
+  pub others_counted : count_below acts (node_count v + hand_count v + 1) ≡ count_below (is_ready p m.install) (node_count v) + count_below (is_busy v f.queues f.hands m.forward) (hand_count v)
+  others_counted =
+      omega (arith, count_suc acts (node_count v + hand_count v), ap one_if (at_controller v p m f driver), hands_counted (hand_count v) (omega arith))
+
+  pub all_counted : count_below acts (actor_count v) ≡ count_below (is_ready p m.install) (node_count v) + count_below (is_busy v f.queues f.hands m.forward) (hand_count v) + one_if driver
+  all_counted =
+      let n = node_count v + hand_count v + 1 in
+      let last : actor_count v ≡ n + 1 = omega arith in
+      omega (arith, ap (count_below acts) last, count_suc acts n, ap one_if (at_driver v p m f driver), others_counted)
+
+pub is_counted : (b : Bool) → 0 < one_if b → b ≡ true
+is_counted true l = refl
+is_counted false l = absurd (omega (arith, l))

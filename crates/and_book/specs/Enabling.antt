@@ -10,12 +10,13 @@ use Rattle.and_events.specs.declared.plan.Step.TheVariants.{Append, Inject, Wait
 use Rattle.and_events.specs.declared.plan.Settings.{Settings}
 use Rattle.and_events.specs.Places.{node_count, hand_count, IsActor}
 use Rattle.and_events.specs.Flow.{Flow}
-use Rattle.and_events.specs.Programming.{Programmes, HasInstalled, programme_at, announced_at, installed_at}
+use Rattle.and_events.specs.Programming.{Programmes, HasInstalled, programme_at, installed_at}
 use Rattle.and_events.specs.State.{NodeHolds, no_packet}
 use Rattle.and_events.specs.Legal.{added_at}
 use Rattle.and_kept.specs.Busy.{is_busy}
 use Rattle.and_kept.specs.Moves.{IsBusy}
-use Rattle.and_kept.specs.Nodes.{is_ready}
+use Rattle.and_kept.specs.Lanes.{Roads}
+use Rattle.and_kept.specs.Nodes.{Progressed, is_ready}
 
 -- all is installed, no packet is queued and none in hand
 pub record IsStill (p : Programmes) (f : Flow) : Type 0 where
@@ -61,3 +62,7 @@ acts_at v p m f driver n =
     if nat_lt n (node_count v) then is_ready p m.install n
     else (if nat_lt n (node_count v + hand_count v) then is_busy v f.queues f.hands m.forward (n - node_count v)
     else (driver && (n == node_count v + hand_count v + 1)))
+
+-- that, by what is kept
+abbrev pub acts_by : Progressed → Roads → Bool → ℕ → Bool
+acts_by p t driver = acts_at t.settings p.programmes (record { install = p.held; forward = t.held }) t.flow driver

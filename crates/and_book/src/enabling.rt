@@ -1,8 +1,9 @@
 //! Who may act.
-ghost use Rattle.std.specs.Prelude.{◌≡◌, ℕ, ◌↔◌, ◌<◌, ◌≤◌, true, false, length, IsTrue};
+ghost use Rattle.std.specs.Prelude.{◌≡◌, ◌↔◌, ◌<◌, ◌≤◌, true, length, IsTrue};
 ghost use Rattle.and_events.specs.Places as places;
 ghost use Rattle.and_events.specs.Places.{node_count, IsActor};
-ghost use Rattle.and_book.specs.Enabling.{IsStill, IsKnownAtHome, CanDo, IsInjectable, CanAct, Acts, acts_at, vm_in};
+ghost use Rattle.and_kept.specs.Numbers.{count_below};
+ghost use Rattle.and_book.specs.Enabling.{IsStill, IsKnownAtHome, CanDo, IsInjectable, CanAct, Acts, acts_by, vm_in};
 
 use and_events::{Actor, Items, Packet, Step, actor_count, is_actor};
 use and_kept::{Progress, Traffic};
@@ -98,21 +99,30 @@ pub(crate) fn can_act(
     is_actor(traffic.settings(), actor) && acts(packets, progress, traffic, due, actor)
 }
 
-/// The least number of an actor that may act, where the driver does or does not; the number of actors where there is none.
-pub(crate) fn first_number(progress: &Progress, traffic: &Traffic, driver: bool) -> u32
+/// How many actors may act, where the driver does or does not.
+pub(crate) fn count_acting(progress: &Progress, traffic: &Traffic, driver: bool) -> u32
     requires nodes { length progress.now.programmes.ops ≡ node_count traffic.now.settings }
-    ensures within { result ≤ places.actor_count traffic.now.settings }
-    ensures acts { result < places.actor_count traffic.now.settings → acts_at traffic.now.settings progress.now.programmes (record { install = progress.now.held; forward = traffic.now.held }) traffic.now.flow driver result ≡ true }
-    ensures least { (j : ℕ) → j < result → acts_at traffic.now.settings progress.now.programmes (record { install = progress.now.held; forward = traffic.now.held }) traffic.now.flow driver j ≡ false }
+    ensures { result ≡ count_below (acts_by progress.now traffic.now driver) (places.actor_count traffic.now.settings) }
 {
-    let settings = traffic.settings();
-    let count = actor_count(settings);
-    let nodes = settings.hosts + settings.gateways;
-    match progress.next_ready(0) {
-        Some(node) => node,
-        None => match traffic.next_busy(0) {
-            Some(hand) => nodes + hand,
-            None => { if driver { count - 1 } else { count } }
-        },
+    let others = progress.ready_count() + traffic.busy_count();
+    if driver { others + 1 } else { others }
+}
+
+/// The number of the actor that may act, before which `k` actors may, where the driver does or does not.
+pub(crate) fn nth_acting(progress: &Progress, traffic: &Traffic, driver: bool, k: u32) -> u32
+    requires nodes { length progress.now.programmes.ops ≡ node_count traffic.now.settings }
+    requires few { k < count_below (acts_by progress.now traffic.now driver) (places.actor_count traffic.now.settings) }
+    ensures within { result < places.actor_count traffic.now.settings }
+    ensures acts { acts_by progress.now traffic.now driver result ≡ true }
+    ensures rank { count_below (acts_by progress.now traffic.now driver) result ≡ k }
+{
+    let ready = progress.ready_count();
+    if k < ready {
+        return progress.nth_ready(k);
     }
+    let settings = traffic.settings();
+    if k - ready < traffic.busy_count() {
+        return settings.hosts + settings.gateways + traffic.nth_busy(k - ready);
+    }
+    actor_count(settings) - 1
 }

@@ -1,14 +1,15 @@
 //! What a book tells of the state after its lines.
-ghost use Rattle.std.specs.Prelude.{◌≡◌, ◌<◌, ◌↔◌, length, IsTrue, IfSome, IfNone, slice_get};
+ghost use Rattle.std.specs.Prelude.{◌≡◌, ◌<◌, ◌↔◌, List, length, IsTrue, IfSome, IfNone, slice_get};
+ghost use Rattle.and_events.specs.declared.event.Actor.{Actor};
 ghost use Rattle.and_events.specs.Legal.{Enabled};
 ghost use Rattle.and_events.specs.Ordered.{IsFirst};
 ghost use Rattle.and_events.specs.Places.{IsActor, IsNode};
 ghost use Rattle.and_events.specs.State.{programme_of, announced_of, installed_of, carried_at};
-ghost use Rattle.and_book.specs.Views.{NoneEnabled, now};
+ghost use Rattle.and_book.specs.Views.{AreEnabled, NoneEnabled, now};
 
 use crate::book::Book;
-use crate::enabling::{can_act, can_do, first_number};
-use and_events::{Actor, Carried, Node, Step, actor_at, actor_count, node_place};
+use crate::enabling::{can_act, count_acting, nth_acting};
+use and_events::{Actor, Carried, Node, Step, actor_at, node_place};
 use and_policy::Op;
 
 impl Book {
@@ -41,6 +42,27 @@ impl Book {
         )
     }
 
+    /// How many actors are enabled. It takes a few steps, however long the run is.
+    pub fn enabled_count(&self) -> u32
+        ensures { (actors : List Actor) × AreEnabled self.now.plan (now self.now) actors × (result ≡ length actors) }
+    {
+        count_acting(&self.progress, &self.traffic, self.enabled(Actor::Driver))
+    }
+
+    /// The enabled actor before which `k` others come in the order of their numbers; none where not so many are enabled. It
+    /// takes a few steps, however long the run is.
+    pub fn enabled_at(&self, k: u32) -> Option<Actor>
+        ensures { (actors : List Actor) × AreEnabled self.now.plan (now self.now) actors × (result ≡ slice_get actors k) }
+    {
+        let driver = self.enabled(Actor::Driver);
+        if k < count_acting(&self.progress, &self.traffic, driver) {
+            let number = nth_acting(&self.progress, &self.traffic, driver, k);
+            Some(actor_at(self.plan.settings, number))
+        } else {
+            None
+        }
+    }
+
     /// The enabled actor with the smallest number. It takes a few steps, however long the run is.
     pub fn first_enabled(&self) -> Option<Actor>
         ensures actor { IfSome result (λ a. IsActor self.now.plan.settings a) }
@@ -48,19 +70,7 @@ impl Book {
         ensures first { IfSome result (λ a. IsFirst self.now.plan (now self.now) a) }
         ensures none { IfNone result (NoneEnabled self.now.plan (now self.now)) }
     {
-        let settings = self.plan.settings;
-        let driver = can_do(
-            &self.plan.packets,
-            &self.progress,
-            &self.traffic,
-            self.next_step(),
-        );
-        let number = first_number(&self.progress, &self.traffic, driver);
-        if number < actor_count(settings) {
-            Some(actor_at(settings, number))
-        } else {
-            None
-        }
+        self.enabled_at(0)
     }
 
     /// The node's programme.

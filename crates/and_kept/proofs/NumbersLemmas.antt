@@ -7,7 +7,7 @@ use Rattle.std.proofs.lemmas.Grind.{common_steps}
 use Rattle.std.proofs.lemmas.List.{get_or-set_same, get_or-set_other}
 use Rattle.std.proofs.lemmas.Nat.{and_le_l}
 use Rattle.std.proofs.lemmas.Nat.Bits.{bit_at_and, bit_at_mask_inside, bit_at_mask_below, ones_shl, bit_at-trailing_zeros, bit_at-lt, bit_at-zero, bit_at_set_same, bit_at_set_other, bit_at_clear_same, bit_at_clear_other}
-use Rattle.and_kept.specs.Numbers.{IsPut, has_in, one_if, rank_in}
+use Rattle.and_kept.specs.Numbers.{Numbers, IsPut, has, has_in, one_if, count_below, rank, rank_in}
 
 -- ---- the lowest bit of a word from one on
 
@@ -87,14 +87,41 @@ one_at_most : (b : Bool) → one_if b ≤ 1
 one_at_most true = omega arith
 one_at_most false = omega arith
 
-pub rank_within : (words : List ℕ) (n : ℕ) → rank_in words n ≤ n
-unfolding rank_in
-rank_within words zero = omega arith
-rank_within words (suc n) = omega (arith, rank_within words n, one_at_most (has_in words n))
+pub count_within : (p : ℕ → Bool) (n : ℕ) → count_below p n ≤ n
+unfolding count_below
+count_within p zero = omega arith
+count_within p (suc n) = omega (arith, count_within p n, one_at_most (p n))
+
+pub count_suc : (p : ℕ → Bool) (n : ℕ) → count_below p (n + 1) ≡ count_below p n + one_if (p n)
+unfolding count_below
+count_suc p n = rw (add-one) refl
+
+-- tests that agree count the same
+pub count_same : (p q : ℕ → Bool) (n : ℕ) → ((j : ℕ) → j < n → p j ≡ q j) → count_below p n ≡ count_below q n
+unfolding count_below
+count_same p q zero same = refl
+count_same p q (suc n) same = omega (arith, ap one_if (same n (omega arith)), count_same p q n (λ j l. same j (omega (arith, l))))
+
+-- the numbers from a on are counted as another test counts them from 0 on
+pub count_shift : (p q : ℕ → Bool) (a b : ℕ) → ((k : ℕ) → k < b → p (a + k) ≡ q k) → count_below p (a + b) ≡ count_below p a + count_below q b
+unfolding count_below
+count_shift p q a zero same = let e : a + 0 ≡ a = omega arith in rw e (omega arith)
+count_shift p q a (suc b) same =
+    let e : a + suc b ≡ a + b + 1 = omega arith in
+    rw e (omega (arith, count_suc p (a + b), ap one_if (same b (omega arith)), count_shift p q a b (λ k l. same k (omega (arith, l)))))
+
+pub count_grows : (p : ℕ → Bool) (a b : ℕ) → a ≤ b → count_below p a ≤ count_below p b
+unfolding count_below
+count_grows p a zero le = let same : a ≡ 0 = omega arith in rw same (omega arith)
+count_grows p a (suc b) le = by_case (cases_lt b a) (λ more. count_grows p a b more)
+  where
+    by_case : (b < a) ⊎ (a ≤ b) → (a ≤ b → count_below p a ≤ count_below p b) → count_below p a ≤ count_below p b + one_if (p b)
+    by_case (inl last) before = let same : a ≡ suc b = omega arith in rw same (omega arith)
+    by_case (inr more) before = omega (arith, before more)
 
 -- where none is in from a on, as many are smaller than a as than b
 pub rank_flat : (words : List ℕ) (a b : ℕ) → a ≤ b → ((j : ℕ) → a ≤ j → j < b → has_in words j ≡ false) → rank_in words b ≡ rank_in words a
-unfolding rank_in
+unfolding count_below
 rank_flat words a zero le none = let same : a ≡ 0 = omega arith in ap (rank_in words) (sym same)
 rank_flat words a (suc b) le none =
     by_case (cases_lt b a) (λ more. rank_flat words a b more (λ j low high. none j low (omega (arith, high))))
@@ -103,15 +130,11 @@ rank_flat words a (suc b) le none =
     by_case (inl last) before = let same : a ≡ suc b = omega arith in ap (rank_in words) (sym same)
     by_case (inr more) before = rw (none b more (omega arith)) (omega (arith, before more))
 
-rank_suc : (words : List ℕ) (n : ℕ) → rank_in words (n + 1) ≡ rank_in words n + one_if (has_in words n)
-unfolding rank_in
-rank_suc words n = rw (add-one) refl
-
 -- the next one from a on is counted
 pub rank_there : (words : List ℕ) (n : ℕ) → has_in words n ≡ true → (a k : ℕ) → a ≤ n → ((j : ℕ) → a ≤ j → j < n → has_in words j ≡ false) → rank_in words a ≡ k → rank_in words (n + 1) ≡ k + 1
 rank_there words n is a k le none passed =
     let one : one_if (has_in words n) ≡ 1 = ap one_if is in
-    omega (arith, rank_suc words n, rank_flat words a n le none, one, passed)
+    omega (arith, count_suc (has_in words) n, rank_flat words a n le none, one, passed)
 
 module _ (old new : List ℕ) (n : ℕ) (on : Bool) (put : (j : ℕ) → has_in new j ≡ (if j == n then on else has_in old j)) where
   other : (j : ℕ) → j ≢ n → has_in new j ≡ has_in old j
@@ -121,13 +144,13 @@ module _ (old new : List ℕ) (n : ℕ) (on : Bool) (put : (j : ℕ) → has_in 
   here = put n ∙ ap (λ b. if b then on else has_in old n) (eq_is n n refl)
 
   rank_below : (k : ℕ) → k ≤ n → rank_in new k ≡ rank_in old k
-  unfolding rank_in
+  unfolding count_below
   rank_below zero le = refl
   rank_below (suc k) le = rw (other k (λ e. omega (arith, e, le))) (omega (arith, rank_below k (omega (arith, le))))
 
   -- after a number is put in or out, as many more are smaller than what is above it
   pub rank_put : (m : ℕ) → n < m → rank_in new m + one_if (has_in old n) ≡ rank_in old m + one_if on
-  unfolding rank_in
+  unfolding count_below
   rank_put zero within = absurd (omega arith)
   rank_put (suc m) within = by_case (cases_eq m n) (λ more. rank_put m more) (rank_below n (omega arith))
     where
@@ -138,7 +161,7 @@ module _ (old new : List ℕ) (n : ℕ) (on : Bool) (put : (j : ℕ) → has_in 
 
 -- what is in is counted
 pub rank_has : (words : List ℕ) (n m : ℕ) → n < m → one_if (has_in words n) ≤ rank_in words m
-unfolding rank_in
+unfolding count_below
 rank_has words n zero within = absurd (omega arith)
 rank_has words n (suc m) within = by_case (cases_eq m n) (λ more. rank_has words n m more)
   where
@@ -158,7 +181,7 @@ unfolding has_in
 has_none k n = ap (λ b. b == 1) (ap (λ w. bit_at w (n % 64)) (copies_at {X = ℕ} k (n / 64) 0) ∙ bit_at-zero (n % 64))
 
 pub rank_zero : (words : List ℕ) → rank_in words 0 ≡ 0
-unfolding rank_in
+unfolding count_below
 rank_zero words = refl
 
 pub rank_none : (k n : ℕ) → rank_in (replicate k 0) n ≡ 0
@@ -191,3 +214,7 @@ none_from words from at found wide none before j low high = by_case (cases_lt j 
     by_case : (j < at) ⊎ (at ≤ j) → has_in words j ≡ false
     by_case (inl past) = before j low past
     by_case (inr later) = none_up_to words at found wide none j later high
+
+-- a set that tells what passes a test has as many numbers below one as pass it
+pub rank_told : (s : Numbers) (p : ℕ → Bool) (m n : ℕ) → ((k : ℕ) → k < m → has s k ≡ p k) → n ≤ m → rank s n ≡ count_below p n
+rank_told s p m n told le = count_same (has_in s.words) p n (λ k l. told k (omega (arith, l, le)))

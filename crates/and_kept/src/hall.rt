@@ -1,10 +1,11 @@
 //! Queues and hands, and which hands have work.
-ghost use Rattle.std.specs.Prelude.{◌≡◌, ℕ, ◌<◌, ◌≤◌, ◌↔◌, nat_le, [], length, IsTrue, IfOk, IfSome, IfNone, Some, None, true, false, replicate, slice_get, slice_set, if◌then◌else◌};
+ghost use Rattle.std.specs.Prelude.{◌≡◌, ◌<◌, ◌^◌, ◌↔◌, nat_le, [], length, IsTrue, IfOk, Some, None, true, false, replicate, slice_get, slice_set, if◌then◌else◌};
 ghost use Rattle.std.specs.List.{All};
 ghost use Rattle.and_events.specs.Flow.{hand_at, queue_at, pushed, popped};
 ghost use Rattle.and_events.specs.Places.{node_count, queue_count, hand_count, capacity_at, IsSmall};
 ghost use Rattle.and_kept.specs.Busy as spec;
 ghost use Rattle.and_kept.specs.Lanes.{parcels_at, with_parcel, without_first};
+ghost use Rattle.and_kept.specs.Numbers.{count_below};
 
 use crate::busy::{count_hands, refresh, takers};
 use crate::count::no_marks;
@@ -213,15 +214,21 @@ impl Hall {
         self.busy.has(hand)
     }
 
-    /// The place of the first hand that has work, of those from `from` on.
-    pub(crate) fn next(&self, from: u32) -> Option<u32>
-        requires { from ≤ hand_count self.now.settings }
-        ensures there { IfSome result (λ k. k < hand_count self.now.settings) }
-        ensures past { IfSome result (λ k. from ≤ k) }
-        ensures busy { IfSome result (λ k. spec.is_busy self.now.settings self.now.queues self.now.hands self.now.held k ≡ true) }
-        ensures least { IfSome result (λ k. (j : ℕ) → from ≤ j → j < k → spec.is_busy self.now.settings self.now.queues self.now.hands self.now.held j ≡ false) }
-        ensures none { IfNone result ((j : ℕ) → from ≤ j → j < hand_count self.now.settings → spec.is_busy self.now.settings self.now.queues self.now.hands self.now.held j ≡ false) }
+    /// How many hands have work.
+    pub(crate) fn busy_count(&self) -> u32
+        ensures is { result ≡ count_below (spec.is_busy self.now.settings self.now.queues self.now.hands self.now.held) (hand_count self.now.settings) }
+        ensures small { result < 2 ^ 16 }
     {
-        self.busy.next(from)
+        self.busy.count()
+    }
+
+    /// The place of the hand that has work, before which `k` hands have.
+    pub(crate) fn nth_busy(&self, k: u32) -> u32
+        requires { k < count_below (spec.is_busy self.now.settings self.now.queues self.now.hands self.now.held) (hand_count self.now.settings) }
+        ensures there { result < hand_count self.now.settings }
+        ensures busy { spec.is_busy self.now.settings self.now.queues self.now.hands self.now.held result ≡ true }
+        ensures rank { count_below (spec.is_busy self.now.settings self.now.queues self.now.hands self.now.held) result ≡ k }
+    {
+        self.busy.nth(k)
     }
 }

@@ -142,7 +142,8 @@ impl NumberSet {
 
     /// How many numbers are in.
     pub fn count(&self) -> u32
-        ensures { result ≡ count self.now }
+        ensures is { result ≡ count self.now }
+        ensures small { result < 2 ^ 16 }
     {
         self.count
     }

@@ -1,9 +1,9 @@
 //! The log and the nodes' programmes, and whose installers may act.
-ghost use Rattle.std.specs.Prelude.{◌≡◌, ℕ, ◌<◌, ◌≤◌, ◌⊎◌, ◌↔◌, ◌^◌, [], length, true, false, IsTrue, IfOk, IfSome, IfNone, replicate, slice_set};
+ghost use Rattle.std.specs.Prelude.{◌≡◌, ℕ, ◌<◌, ◌≤◌, ◌⊎◌, ◌↔◌, ◌^◌, [], length, true, false, IsTrue, IfOk, replicate, slice_set};
 ghost use Rattle.and_events.specs.Legal as legal;
 ghost use Rattle.and_events.specs.Programming.{Logs, Announces, Installs, HasInstalled, programmes_after, programme_at, announced_at, installed_at};
 ghost use Rattle.and_kept.specs.Nodes as spec;
-ghost use Rattle.and_kept.specs.Numbers.{has};
+ghost use Rattle.and_kept.specs.Numbers.{has, count_below};
 ghost use Rattle.and_policy.specs.Owners as owners;
 
 use crate::count::no_marks;
@@ -152,16 +152,22 @@ impl Progress {
         self.ready.has(node)
     }
 
-    /// The first node whose installer may announce or install, of those from `from` on.
-    pub fn next_ready(&self, from: u32) -> Option<u32>
-        requires { from ≤ length self.now.programmes.ops }
-        ensures there { IfSome result (λ k. k < length self.now.programmes.ops) }
-        ensures past { IfSome result (λ k. from ≤ k) }
-        ensures ready { IfSome result (λ k. spec.is_ready self.now.programmes self.now.held k ≡ true) }
-        ensures least { IfSome result (λ k. (j : ℕ) → from ≤ j → j < k → spec.is_ready self.now.programmes self.now.held j ≡ false) }
-        ensures none { IfNone result ((j : ℕ) → from ≤ j → j < length self.now.programmes.ops → spec.is_ready self.now.programmes self.now.held j ≡ false) }
+    /// At how many nodes the installer may announce or install.
+    pub fn ready_count(&self) -> u32
+        ensures is { result ≡ count_below (spec.is_ready self.now.programmes self.now.held) (length self.now.programmes.ops) }
+        ensures small { result < 2 ^ 16 }
     {
-        self.ready.next(from)
+        self.ready.count()
+    }
+
+    /// The node whose installer may announce or install, before which it is so at `k` nodes.
+    pub fn nth_ready(&self, k: u32) -> u32
+        requires { k < count_below (spec.is_ready self.now.programmes self.now.held) (length self.now.programmes.ops) }
+        ensures there { result < length self.now.programmes.ops }
+        ensures ready { spec.is_ready self.now.programmes self.now.held result ≡ true }
+        ensures rank { count_below (spec.is_ready self.now.programmes self.now.held) result ≡ k }
+    {
+        self.ready.nth(k)
     }
 
     /// The log and each programme get an entry.

@@ -1,5 +1,5 @@
 //! Packets on their way.
-ghost use Rattle.std.specs.Prelude.{◌≡◌, ℕ, ◌<◌, ◌≤◌, ◌↔◌, ◌^◌, [], length, true, false, IfSome, IfNone, IsTrue, IfOk, None, Some, replicate, slice_get, slice_set};
+ghost use Rattle.std.specs.Prelude.{◌≡◌, ◌<◌, ◌↔◌, ◌^◌, [], length, true, false, IsTrue, IfOk, None, Some, replicate, slice_get, slice_set};
 ghost use Rattle.std.specs.List.{All};
 ghost use Rattle.and_events.specs.Flow.{Stop, carried_in, flow_after, hand_at, queue_at, seal_by, sent, to_be_sealed};
 ghost use Rattle.and_events.specs.declared.event.Queue.TheVariants.{Seal};
@@ -11,6 +11,7 @@ ghost use Rattle.and_events.specs.Places.{IsSmall};
 ghost use Rattle.and_policy.specs.FlowHash.{gateway_of};
 ghost use Rattle.and_kept.specs.Busy.{is_busy};
 ghost use Rattle.and_kept.specs.Lanes.{CarriedFits, parcels_at, unsent};
+ghost use Rattle.and_kept.specs.Numbers.{count_below};
 ghost use Rattle.and_kept.specs.Moves.{IsBusy, MayMove, end_here, entered, finds_full_at, hand_of, moved, seal_of, source_in, source_place, taken};
 
 use crate::hall::Hall;
@@ -160,16 +161,22 @@ impl Traffic {
             .is_busy(hand_place(self.hall.settings(), actor) as u32)
     }
 
-    /// The place of the first hand that has work, of those from `from` on.
-    pub fn next_busy(&self, from: u32) -> Option<u32>
-        requires { from ≤ hand_count self.now.settings }
-        ensures there { IfSome result (λ k. k < hand_count self.now.settings) }
-        ensures past { IfSome result (λ k. from ≤ k) }
-        ensures busy { IfSome result (λ k. is_busy self.now.settings self.now.flow.queues self.now.flow.hands self.now.held k ≡ true) }
-        ensures least { IfSome result (λ k. (j : ℕ) → from ≤ j → j < k → is_busy self.now.settings self.now.flow.queues self.now.flow.hands self.now.held j ≡ false) }
-        ensures none { IfNone result ((j : ℕ) → from ≤ j → j < hand_count self.now.settings → is_busy self.now.settings self.now.flow.queues self.now.flow.hands self.now.held j ≡ false) }
+    /// How many hands have work.
+    pub fn busy_count(&self) -> u32
+        ensures is { result ≡ count_below (is_busy self.now.settings self.now.flow.queues self.now.flow.hands self.now.held) (hand_count self.now.settings) }
+        ensures small { result < 2 ^ 16 }
     {
-        self.hall.next(from)
+        self.hall.busy_count()
+    }
+
+    /// The place of the hand that has work, before which `k` hands have.
+    pub fn nth_busy(&self, k: u32) -> u32
+        requires { k < count_below (is_busy self.now.settings self.now.flow.queues self.now.flow.hands self.now.held) (hand_count self.now.settings) }
+        ensures there { result < hand_count self.now.settings }
+        ensures busy { is_busy self.now.settings self.now.flow.queues self.now.flow.hands self.now.held result ≡ true }
+        ensures rank { count_below (is_busy self.now.settings self.now.flow.queues self.now.flow.hands self.now.held) result ≡ k }
+    {
+        self.hall.nth_busy(k)
     }
 
     /// Forwarding is held at the node, or is not.

@@ -1,10 +1,10 @@
 use Rattle.std.proofs.Common.{◌≡◌, ◌<◌, arith, ap, ◌∙◌, sym, subst}
 use Rattle.and_kept.specs.Numbers.{Numbers, one_if, has_in}
-use Rattle.and_kept.proofs.NumbersLemmas.{rank_within, rank_has, rank_put}
+use Rattle.and_kept.proofs.NumbersLemmas.{count_within, rank_has, rank_put}
 use Rattle.and_kept.proofs.numbers.NumberSet.put.Goals as goal
 
 pub recount-self-inside-requires-clause-small : goal.recount-self-inside-requires-clause-small
-recount-self-inside-requires-clause-small c = omega (arith, rank_within c.self.inside.words.items c.self.inside.size)
+recount-self-inside-requires-clause-small c = omega (arith, count_within (has_in c.self.inside.words.items) c.self.inside.size)
 
 pub recount-self-inside-requires-clause-some : goal.recount-self-inside-requires-clause-some
 recount-self-inside-requires-clause-some c =

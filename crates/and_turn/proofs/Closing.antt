@@ -1,5 +1,5 @@
 -- How the table begins, and what it has at its end.
-use Rattle.std.proofs.Common.{◌≡◌, ◌≢◌, inl, ⊎_elim, ℕ, zero, suc, ◌<◌, Bool, true, false, List, [], ◌∷◌, ◌++◌, sym, refl, ap, ◌∙◌, subst, arith, Option, Some}
+use Rattle.std.proofs.Common.{◌≡◌, ◌≢◌, inl, ⊎_elim, ℕ, zero, suc, ◌+◌, ◌<◌, Bool, true, false, List, [], ◌∷◌, ◌++◌, sym, refl, ap, ◌∙◌, subst, arith, Option, Some}
 use Rattle.std.specs.Prelude.{Contains}
 use Rattle.std.proofs.lemmas.Bool.{false≢true}
 use Rattle.std.proofs.lemmas.List.Elements.{All-nil}
@@ -77,7 +77,7 @@ module _ {S L R : Type 0} (lines_of : S → List L) (root_of : S → R) (seat_of
     whole = λ x there n none. subst (λ (z : Known S L). own seat_of [] n ≡ own seat_of z.seen n) (only k x 0 there.0).1 refl;
     ended = λ x there n among. let h : Contains [] n = subst (λ (z : Known S L). Contains z.ended n) (sym (only k x 0 there.0).1) among in let lt : h.0 < 0 = h.1 in absurd (omega arith);
     named = All-nil (λ (l : L). seat_of l < 1);
-    merged = λ x there. let kept : Kept seat_of k.merged = record { before = prefix_self []; joined = prefix_self []; last = refl; first = refl; earlier = λ n h. refl } in subst (λ (z : Known S L). Kept seat_of z.merged) (only k x 0 there.0).1 kept;
+    merged = λ x there. let kept : Kept seat_of k.merged = record { before = prefix_self []; joined = prefix_self []; last = refl; first = refl; earlier = λ n h. refl; out = omega arith } in subst (λ (z : Known S L). Kept seat_of z.merged) (only k x 0 there.0).1 kept;
   }
 
 -- the same, of a list of slots to which the value was added
@@ -86,10 +86,22 @@ pub opens_with : {S L R : Type 0} (lines_of : S → List L) (root_of : S → R) 
 opens_with {S = S} lines_of root_of seat_of x value before slots same none_before added empty = let is : slots ≡ Some x ∷ [] = added ∙ (ap (λ (l : List (Option S)). l ++ Some value ∷ []) none_before ∙ ap (λ (z : S). Some z ∷ []) (sym same)) in
     subst (λ (l : List (Option S)). Rule lines_of root_of seat_of x (opening (0 ∷ 0 ∷ 0 ∷ []) l (opening_view x))) (sym is) (opens lines_of root_of seat_of x (ap lines_of same ∙ empty))
 
--- what a look after a join tells: the lines of each number that was joined before are as they were
+-- what a look after a join tells
+joined_kept : {S L : Type 0} (seat_of : L → ℕ) (v w : View S L) (held : List (ℕ × Option S)) (m : Sat S L) → m ≡ (joined_view v w, held)
+    → (m.0.known.live ≡ true → m.0.known.number ≡ 0 → Kept seat_of m.0.known.merged) → v.known.live ≡ true → v.known.number ≡ 0 → Kept seat_of (joined_view v w).known.merged
+joined_kept {S = S} {L = L} seat_of v w held m is told live zero_is = subst (λ (z : Sat S L). Kept seat_of z.0.known.merged) is
+    (told (ap (λ (z : Sat S L). z.0.known.live) is ∙ live) (ap (λ (z : Sat S L). z.0.known.number) is ∙ zero_is))
+
+-- the first seat had one out more
+pub joined_out : {S L : Type 0} (seat_of : L → ℕ) (v w : View S L) (held : List (ℕ × Option S)) (m m' : Sat S L) → m ≡ (joined_view v w, held) → m' ≡ m
+    → (m.0.known.live ≡ true → m.0.known.number ≡ 0 → Kept seat_of m.0.known.merged) → v.known.live ≡ true → v.known.number ≡ 0
+    → v.known.out ≡ m'.0.known.out + 1
+joined_out {S = S} {L = L} seat_of v w held m m' is same told live zero_is =
+    omega (arith, (joined_kept seat_of v w held m is told live zero_is).out, ap (λ (z : Sat S L). z.0.known.out) (same ∙ is))
+
+-- the lines of each number that was joined before are as they were
 pub joined_ended : {S L : Type 0} (seat_of : L → ℕ) (v w : View S L) (held : List (ℕ × Option S)) (m m' : Sat S L) → m ≡ (joined_view v w, held) → m' ≡ m
     → (m.0.known.live ≡ true → m.0.known.number ≡ 0 → Kept seat_of m.0.known.merged) → v.known.live ≡ true → v.known.number ≡ 0
     → (n : ℕ) → Contains v.known.ended n → own seat_of m'.0.known.seen n ≡ own seat_of v.known.seen n
-joined_ended {S = S} {L = L} seat_of v w held m m' is same told live zero_is n among = let kept : Kept seat_of (joined_view v w).known.merged = subst (λ (z : Sat S L). Kept seat_of z.0.known.merged) is
-    (told (ap (λ (z : Sat S L). z.0.known.live) is ∙ live) (ap (λ (z : Sat S L). z.0.known.number) is ∙ zero_is)) in
-    ap (λ (z : Sat S L). own seat_of z.0.known.seen n) (same ∙ is) ∙ kept.earlier n among
+joined_ended {S = S} {L = L} seat_of v w held m m' is same told live zero_is n among =
+    ap (λ (z : Sat S L). own seat_of z.0.known.seen n) (same ∙ is) ∙ (joined_kept seat_of v w held m is told live zero_is).earlier n among

@@ -18,7 +18,7 @@ use Rattle.and_turn.proofs.Knowing.{Knowing, one-seat, seats-set, seats_one, her
 
 module _ {S L : Type 0} where
   abbrev merged_of : Known S L → Known S L → Merged L
-  merged_of k w = record { before = k.seen; joined = w.seen; last = w.number; earlier = k.ended }
+  merged_of k w = record { before = k.seen; joined = w.seen; last = w.number; earlier = k.ended; out = k.out }
 
   abbrev both_of : Known S L → Known S L → Known S L
   both_of k w = record k { seen = longer k.seen w.seen; out = k.out - 1; ended = k.ended ++ w.number ∷ []; merged = merged_of k w }
@@ -53,6 +53,10 @@ module _ {S L : Type 0} (seat_of : L → ℕ) (opened : S) where
       (λ e. none j x nz (old_on j x e (λ o. nz (o ∙ id_is)) there)) in
       let left : (n : ℕ) → own seat_of lines n ≡ own seat_of k.seen n → own seat_of lines n ≡ own seat_of (longer k.seen w.seen) n = λ n e. own_longer_left seat_of k.seen w.seen lines n ha hb e in
       let right : own seat_of lines w.number ≡ own seat_of (longer k.seen w.seen) w.number = own_longer_right seat_of k.seen w.seen lines w.number ha hb (r.mine other w at_other) in
+      let c0 = seats-set ks id k both at.0 in let c1 = seats-set one other w spent in_one.0 in let s = f.2 in let o : f.0.out ≡ k.out = ap (λ (z : Known S L). z.out) is in
+      let live : counts w.live ≡ 1 = one-seat w at_other.1 in let dead : counts spent.live ≡ 0 = ap counts gone in
+      let some_left = seats_one ks' id both at_both in
+      let some_out : 0 < k.out = omega arith in
       let first_mine : own seat_of lines 0 ≡ own seat_of k.seen 0 = subst (λ (n : ℕ). own seat_of lines n ≡ own seat_of k.seen n) zero_is (r.mine id k at) in record {
         seen = λ j x there. ⊎_elim
             (λ (p : (j ≡ id) × (both ≡ x)). subst (λ (z : Known S L). IsPrefix z.seen lines) p.1 (longer_prefix k.seen w.seen lines ha hb))
@@ -62,10 +66,7 @@ module _ {S L : Type 0} (seat_of : L → ℕ) (opened : S) where
             (λ (p : (j ≡ id) × (both ≡ x)). subst (λ (z : Known S L). z.opened ≡ Some opened) p.1 (r.rooted id k at))
             (λ (p : (j ≢ other) × (j ≢ id) × Sits ks j x). r.rooted j x p.2)
             (cases j x there);
-        first = let c0 = seats-set ks id k both at.0 in let c1 = seats-set one other w spent in_one.0 in let s = f.2 in let o : f.0.out ≡ k.out = ap (λ (z : Known S L). z.out) is in
-            let live : counts w.live ≡ 1 = one-seat w at_other.1 in let dead : counts spent.live ≡ 0 = ap counts gone in
-            let some_left = seats_one ks' id both at_both in
-            (both, subst (λ (m : ℕ). Sits ks' m both) id_is at_both, omega arith, made_is ∙ sym long);
+        first = (both, subst (λ (m : ℕ). Sits ks' m both) id_is at_both, omega arith, made_is ∙ sym long);
         few = subst (λ (n : ℕ). n < 2 ^ 32) (sym long) r.few;
         numbers = λ j x there. ⊎_elim
             (λ (p : (j ≡ id) × (both ≡ x)). subst (λ (z : Known S L). z.number ≡ j) p.1 (r.numbers id k at ∙ sym p.0))
@@ -99,5 +100,6 @@ module _ {S L : Type 0} (seat_of : L → ℕ) (opened : S) where
               last = sym right ∙ r.mine other w at_other;
               first = sym (left 0 first_mine) ∙ first_mine;
               earlier = λ n h. let is_whole = r.whole k at0 n (r.ended k at0 n h).1 in sym (left n is_whole) ∙ is_whole;
+              out = some_out;
             } in subst (λ (z : Known S L). Kept seat_of z.merged) same kept;
       }

@@ -56,13 +56,14 @@ module _ {S L : Type 0} where
   NoOther ks n = (j : ℕ) (k : Known S L) → j ≢ 0 → Sits ks j k → k.number ≢ n
 
 module _ {L : Type 0} (seat_of : L → ℕ) where
-  -- of the last join: what the first seat has seen then begins with what both had seen, and has the lines of each number that one of them had to know
+  -- of the last join: what the first seat has seen then begins with what both had seen, and has the lines of each number that one of them had to know; and a seat was out
   pub record Kept (m : Merged L) : Type 0 where
     pub before : IsPrefix m.before (longer m.before m.joined)
     pub joined : IsPrefix m.joined (longer m.before m.joined)
     pub last : own seat_of (longer m.before m.joined) m.last ≡ own seat_of m.joined m.last
     pub first : own seat_of (longer m.before m.joined) 0 ≡ own seat_of m.before 0
     pub earlier : (n : ℕ) → Contains m.earlier n → own seat_of (longer m.before m.joined) n ≡ own seat_of m.before n
+    pub out : 0 < m.out
 
 abbrev pub Sat : Type 0 → Type 0 → Type 0
 Sat S L = Me (Option S) (View S L)
@@ -150,9 +151,9 @@ Adds {S = S} lines_of st m n m' = (m'.1 ≡ m.1) × ((x : S) → m.1 ≡ (0, Som
 abbrev pub Recalls : {S L : Type 0} → (L → ℕ) → Step (Option S) → Sat S L → ℕ → Sat S L → Type 0
 Recalls seat_of st m n m' = (m' ≡ m) × (m.0.known.live ≡ true → m.0.known.number ≡ 0 → Kept seat_of m.0.known.merged)
 
--- there was no join yet
+-- there was no join yet: what each join keeps is true of this
 abbrev pub unmerged : {L : Type 0} → Merged L
-unmerged = record { before = []; joined = []; last = 0; earlier = [] }
+unmerged = record { before = []; joined = []; last = 0; earlier = []; out = 1 }
 
 module _ {S L : Type 0} where
   -- the first seat, of a lock made with x
@@ -182,7 +183,7 @@ module _ {S L : Type 0} where
       seen = longer v.known.seen w.known.seen;
       out = v.known.out - 1;
       ended = v.known.ended ++ w.known.number ∷ [];
-      merged = record { before = v.known.seen; joined = w.known.seen; last = w.known.number; earlier = v.known.ended };
+      merged = record { before = v.known.seen; joined = w.known.seen; last = w.known.number; earlier = v.known.ended; out = v.known.out };
     };
   }
 

@@ -108,14 +108,15 @@ impl<S: Tale> TurnLock<S> {
         self.pass(seat);
     }
 
-    /// The first seat takes another in, and knows what both knew.
+    /// The first seat takes another in, and knows what both knew. It has one seat out less.
     ///
     /// The lines of the joined seat are kept, and so are those of each number that was joined before.
     pub fn join(&self, seat: &mut Seat<S>, other: Seat<S>)
         requires seat { SitsAt self.now seat.old × IsFree seat.old × (number_of seat.old ≡ 0) }
         requires other { SitsAt self.now other × IsFree other }
         ensures first { SitsAt self.now seat.new × IsFree seat.new × (number_of seat.new ≡ 0) }
-        ensures counts { (out_of seat.new ≡ out_of seat.old - 1) × (made_of seat.new ≡ made_of seat.old) × (ended_of seat.new ≡ ended_of seat.old ++ number_of other ∷ []) }
+        ensures out { out_of seat.old ≡ out_of seat.new + 1 }
+        ensures counts { (made_of seat.new ≡ made_of seat.old) × (ended_of seat.new ≡ ended_of seat.old ++ number_of other ∷ []) }
         ensures seen { seen_of seat.new ≡ longer (seen_of seat.old) (seen_of other) }
         ensures grows { IsPrefix (seen_of seat.old) (seen_of seat.new) × IsPrefix (seen_of other) (seen_of seat.new) }
         ensures own { own S.seat_of (seen_of seat.new) 0 ≡ own S.seat_of (seen_of seat.old) 0 }

@@ -48,4 +48,6 @@ pub struct Merged<L> {
     pub last: u64,
     /// The numbers that were joined before.
     pub earlier: LinkedList<u64>,
+    /// How many seats the first one had split and not joined before.
+    pub out: u64,
 }

@@ -1,16 +1,17 @@
 -- The parcels in the queues along a run: what each carries, and that it is its packet's.
-use Rattle.std.proofs.Common.{◌≡◌, ℕ, zero, suc, ◌+◌, ◌-◌, ◌*◌, ◌<◌, ◌≤◌, ◌^◌, Bool, true, false, cond, List, [], ◌∷◌, ◌++◌, length, drop, set, map, replicate, refl, sym, ap, ◌∙◌, subst, arith, Option, Some}
-use Rattle.std.specs.Prelude.{◌==◌, if◌then◌else◌, slice_get}
+use Rattle.std.proofs.Common.{◌≡◌, ℕ, zero, suc, ◌+◌, ◌-◌, ◌*◌, ◌<◌, ◌≤◌, ◌^◌, Bool, true, false, cond, List, [], ◌∷◌, ◌++◌, length, drop, set, map, replicate, refl, sym, ap, ◌∙◌, subst, arith, Option, Some, ◌⊎◌, inl, inr, ⊎_elim}
+use Rattle.std.specs.Prelude.{◌==◌, slice_get, option_map}
 use Rattle.std.specs.List.{All}
 use Rattle.std.proofs.Math.ListN.{get_or-map}
 use Rattle.std.proofs.lemmas.Grind.{common_steps}
-use Rattle.std.proofs.lemmas.List.{map-set, map-append, drop-map}
+use Rattle.std.proofs.lemmas.List.{map-set, map-append, drop-map, length_push, get_or_push}
+use Rattle.std.proofs.lemmas.Option.{slice_get_read, slice_get_within}
 use Rattle.std.proofs.lemmas.List.Elements.{All-nil, All-cons, All-head, All-tail, All-push, All-drop, All-replicate}
 use Rattle.std.proofs.lemmas.List.Sums.{sum_by-cons}
 use Rattle.and_policy.specs.declared.packet.Tuple.{Tuple}
 use Rattle.and_policy.specs.FlowHash.{flow_hash}
 use Rattle.and_policy.specs.Outer.{outer_packet, entropy_port}
-use Rattle.and_parcel.specs.Parcels.{ParcelView}
+use Rattle.and_parcel.specs.Parcels.{ParcelView, wire_of}
 use Rattle.and_events.specs.declared.event.Actor.{Actor}
 use Rattle.and_events.specs.declared.event.Actor.TheVariants.{HostInstall, GateInstall, Worker, Coproc, Gateway, Controller, Driver}
 use Rattle.and_events.specs.declared.event.Endpoint.{Endpoint}
@@ -25,7 +26,7 @@ use Rattle.and_events.specs.declared.plan.Plan.{Plan}
 use Rattle.and_events.specs.declared.plan.Settings.{Settings}
 use Rattle.and_events.specs.Places.{hand_place, queue_place, queue_count, node_of, actor_of, IsNode, IsActor}
 use Rattle.and_events.specs.Flow.{Flow, Move, Stay, Enter, Lose, Grab, Send, SealLater, Stop, flow_after, enter_by, carried_in, queue_at, hand_at, pushed, popped}
-use Rattle.and_events.specs.OuterPackets.{Sent, sent_by_move, source_address, endpoint_address}
+use Rattle.and_events.specs.OuterPackets.{Sent, sent_by_move, with_sent, sends_of, sent_bytes, source_address, endpoint_address}
 use Rattle.and_events.specs.State.{State, state, move_of, tuple_at, frame_at, carried_at}
 use Rattle.and_events.specs.Legal.{Legal}
 use Rattle.and_events.specs.Run.{Run, sends}
@@ -41,7 +42,7 @@ use Rattle.and_laws.proofs.Sizes.{sizes}
 use Rattle.and_laws.proofs.Unique.{in_no_queue}
 use Rattle.and_kept.specs.Lanes.{Roads, parcels_at, with_parcel, without_first}
 use Rattle.and_book.specs.Inside.{HasParcels}
-use Rattle.and_book.specs.Outers.{newer_sent, last_sent, IsSentBy}
+use Rattle.and_book.specs.Outers.{IsNewest, IsSentBy}
 use Rattle.and_kept.specs.Outers.{wrapped, parcels_moved}
 use Rattle.and_book.specs.Views.{IsPacket}
 use Rattle.and_events.specs.Places.{Handles}
@@ -78,20 +79,45 @@ abbrev SendsNot : ℕ → Move → Type 0
 SendsNot i (Send a q j net target) = j ≡ i → ⊥
 SendsNot i _ = Unit {0}
 
-if_other : (j i : ℕ) (x y : Option Sent) → (j ≡ i → ⊥) → (if j == i then x else y) ≡ y
-if_other j i x y n = grind (arith, common_steps)
+there_pushed : (xs : List Sent) (y x : Sent) (t : ℕ) → slice_get xs t ≡ Some x → slice_get (xs ++ y ∷ []) t ≡ Some x
+there_pushed [] y x t e = absurd (cc)
+there_pushed (z ∷ xs) y x zero e = e
+there_pushed (z ∷ xs) y x (suc t) e = there_pushed xs y x t e
 
-if_same : (j i : ℕ) (x y : Option Sent) → j ≡ i → (if j == i then x else y) ≡ x
-if_same j i x y e = grind (arith, common_steps)
+last_pushed : (xs : List Sent) (y : Sent) → slice_get (xs ++ y ∷ []) (length xs) ≡ Some y
+last_pushed xs y = slice_get_read (xs ++ y ∷ []) (length (xs ++ y ∷ [])) (length xs) y refl (omega (arith, length_push xs y)) (sym (get_or_push xs y y (length xs) refl))
 
-not_newer : (plan : Plan) (h : List Event) (here : Node) (i : ℕ) (m : Move) (older : Option Sent) → SendsNot i m → newer_sent i (sent_by_move plan h here m) older ≡ older
-not_newer plan h here i (Send a q j net target) older other = if_other j i _ older other
-not_newer plan h here i Stay older other = refl
-not_newer plan h here i (Enter q j) older other = refl
-not_newer plan h here i (Lose j) older other = refl
-not_newer plan h here i (Grab a q g) older other = refl
-not_newer plan h here i (SealLater a q j net target) older other = refl
-not_newer plan h here i (Stop a j) older other = refl
+pushed_cases : (xs : List Sent) (y x : Sent) (t : ℕ) → slice_get (xs ++ y ∷ []) t ≡ Some x → (slice_get xs t ≡ Some x) ⊎ (y ≡ x)
+pushed_cases [] y x zero e = inr (cc)
+pushed_cases [] y x (suc t) e = absurd (cc)
+pushed_cases (z ∷ xs) y x zero e = inl e
+pushed_cases (z ∷ xs) y x (suc t) e = pushed_cases xs y x t e
+
+-- a send of another packet leaves it the newest
+newest_pushed : (sents : List Sent) (new : Sent) (i t : ℕ) (sent : Sent) → (new.packet ≡ i → ⊥) → IsNewest sents i t sent → IsNewest (sents ++ new ∷ []) i t sent
+newest_pushed sents new i t sent other n = record {
+  there = there_pushed sents new sent t n.there;
+  of = n.of;
+  newest = λ u later l e of. ⊎_elim (λ (old : slice_get sents u ≡ Some later). n.newest u later l old of)
+      (λ (same : new ≡ later). other (ap (λ (x : Sent). x.packet) same ∙ of))
+      (pushed_cases sents new later u e);
+}
+
+newest_last : (sents : List Sent) (new : Sent) → IsNewest (sents ++ new ∷ []) new.packet (length sents) new
+newest_last sents new = record {
+  there = last_pushed sents new;
+  of = refl;
+  newest = λ u later l e of. omega (arith, l, slice_get_within (sents ++ new ∷ []) u later e, length_push sents new);
+}
+
+newest_by : (plan : Plan) (h : List Event) (here : Node) (i t : ℕ) (sent : Sent) (m : Move) (sents : List Sent) → SendsNot i m → IsNewest sents i t sent → IsNewest (with_sent sents (sent_by_move plan h here m)) i t sent
+newest_by plan h here i t sent (Send a q j net target) sents other n = newest_pushed sents _ i t sent other n
+newest_by plan h here i t sent Stay sents other n = n
+newest_by plan h here i t sent (Enter q j) sents other n = n
+newest_by plan h here i t sent (Lose j) sents other n = n
+newest_by plan h here i t sent (Grab a q g) sents other n = n
+newest_by plan h here i t sent (SealLater a q j net target) sents other n = n
+newest_by plan h here i t sent (Stop a j) sents other n = n
 
 -- no packet among these is sent
 abbrev pub SendsNone : Move → List ParcelView → Type 0
@@ -116,14 +142,21 @@ sends_first (SealLater a q j net target) p ps none = (tt, tt)
 sends_first (Stop a j) p ps none = (tt, tt)
 
 module _ (plan : Plan) (h : List Event) (e : Event) (m : Move) (is : move_of plan (state plan h) e ≡ m) where
-  newest_kept : (i : ℕ) → SendsNot i m → last_sent plan (e ∷ h) i ≡ last_sent plan h i
-  unfolding last_sent
-  newest_kept i other =
-      ap (λ x. newer_sent i (sent_by_move plan h (node_of (actor_of e)) x) (last_sent plan h i)) is
-      ∙ not_newer plan h (node_of (actor_of e)) i m (last_sent plan h i) other
+  newest_kept : (i t : ℕ) (sent : Sent) → SendsNot i m → IsNewest (sends_of plan h) i t sent → IsNewest (sends_of plan (e ∷ h)) i t sent
+  unfolding sends_of
+  newest_kept i t sent other n =
+      subst (λ x. IsNewest (with_sent (sends_of plan h) (sent_by_move plan h (node_of (actor_of e)) x)) i t sent) (sym is)
+      (newest_by plan h (node_of (actor_of e)) i t sent m (sends_of plan h) other n)
 
   sent_kept : (p : ParcelView) → SendsNot p.packet m → IsSentBy plan h p → IsSentBy plan (e ∷ h) p
-  sent_kept p other s = record { sent = s.sent; newest = newest_kept p.packet other ∙ s.newest; bytes = s.bytes }
+  sent_kept p other s =
+      let newest = newest_kept p.packet s.t s.sent other s.newest in
+      record {
+        t = s.t;
+        sent = s.sent;
+        newest = newest;
+        bytes = ap (option_map (sent_bytes plan)) newest.there ∙ (sym (ap (option_map (sent_bytes plan)) s.newest.there) ∙ s.bytes);
+      }
 
   -- parcels of packets that are not sent keep the bytes of their newest sends
   pub all_kept : (ps : List ParcelView) → SendsNone m ps → All (IsSentBy plan h) ps → All (IsSentBy plan (e ∷ h)) ps
@@ -151,28 +184,35 @@ pub record Facts (plan : Plan) (h : List Event) (e : Event) (p : ParcelView) (he
 
 module _ (plan : Plan) (h : List Event) (e : Event) (p : ParcelView) (here : Node) (x : Tuple) (hops : ℕ) (f : Facts plan h e p here x hops) where
   new_sent : (a q j net : ℕ) (target : Endpoint) → move_of plan (state plan h) e ≡ Send a q j net target → j ≡ p.packet → IsSentBy plan (e ∷ h) (wrapped here x hops p net target)
-  unfolding last_sent
+  unfolding sends_of
   new_sent a q j net target is of =
-      let i = p.packet in
+      let here_is = node_of (actor_of e) in
+      let some : List ℕ → Option (List ℕ) = Some in
       let ttl : hops ≡ plan.settings.hop_limit - sends plan h j = omega (arith, f.left, ap (sends plan h) of) in
-      record {
-        sent = record {
-          packet = j;
-          outer = record {
-            source = source_address (node_of (actor_of e));
-            destination = endpoint_address target;
-            ttl = plan.settings.hop_limit - sends plan h j;
-            vni = net;
-            source_port = entropy_port (flow_hash (tuple_at plan j));
-            sealed = (carried_at (state plan h) j).sealed;
-          };
+      let sent : Sent = record {
+        packet = j;
+        outer = record {
+          source = source_address here_is;
+          destination = endpoint_address target;
+          ttl = plan.settings.hop_limit - sends plan h j;
+          vni = net;
+          source_port = entropy_port (flow_hash (tuple_at plan j));
+          sealed = (carried_at (state plan h) j).sealed;
         };
-        newest =
-            ap (λ y. newer_sent i (sent_by_move plan h (node_of (actor_of e)) y) (last_sent plan h i)) is
-            ∙ if_same j i _ (last_sent plan h i) of;
-        bytes = envelope_is _ _ (endpoint_address target) _ _ net _ _ _ _ (ap source_address f.node) ttl
-            (ap (λ t. entropy_port (flow_hash t)) (f.tuple ∙ ap (tuple_at plan) (sym of)))
-            (sym (ap (λ k. (carried_at (state plan h) k).sealed) of ∙ f.unsealed)) _ _ (f.packet.frame ∙ ap (frame_at plan) (sym of));
+      } in
+      let sents : sends_of plan (e ∷ h) ≡ sends_of plan h ++ sent ∷ [] = ap (λ y. with_sent (sends_of plan h) (sent_by_move plan h here_is y)) is in
+      let last : IsNewest (sends_of plan h ++ sent ∷ []) p.packet (length (sends_of plan h)) sent =
+      subst (λ i. IsNewest (sends_of plan h ++ sent ∷ []) i (length (sends_of plan h)) sent) of (newest_last (sends_of plan h) sent) in
+      let bytes : sent_bytes plan sent ≡ wire_of (wrapped here x hops p net target) =
+      sym (envelope_is _ _ (endpoint_address target) _ _ net _ _ _ _ (ap source_address f.node) ttl
+      (ap (λ t. entropy_port (flow_hash t)) (f.tuple ∙ ap (tuple_at plan) (sym of)))
+      (sym (ap (λ k. (carried_at (state plan h) k).sealed) of ∙ f.unsealed)) _ _ (f.packet.frame ∙ ap (frame_at plan) (sym of))) in
+      record {
+        t = length (sends_of plan h);
+        sent = sent;
+        newest = subst (λ xs. IsNewest xs p.packet (length (sends_of plan h)) sent) (sym sents) last;
+        bytes = ap (λ xs. option_map (sent_bytes plan) (slice_get xs (length (sends_of plan h)))) sents
+            ∙ (ap (option_map (sent_bytes plan)) (last_pushed (sends_of plan h) sent) ∙ ap some bytes);
       }
 
 -- the move is of this packet, from a hand

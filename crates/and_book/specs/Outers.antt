@@ -1,24 +1,19 @@
 -- The outer headers that a parcel carries: those of the send that put it where it is.
-use Rattle.std.specs.Prelude.{◌≡◌, ℕ, ◌==◌, if◌then◌else◌, List, [], ◌∷◌, Option, Some, None}
+use Rattle.std.specs.Prelude.{◌≡◌, ℕ, ◌<◌, List, Some, slice_get}
 use Rattle.and_parcel.specs.Parcels.{ParcelView, wire_of}
 use Rattle.and_events.specs.declared.event.Event.{Event}
 use Rattle.and_events.specs.declared.plan.Plan.{Plan}
-use Rattle.and_events.specs.OuterPackets.{Sent, sent_by, sent_bytes}
+use Rattle.and_events.specs.OuterPackets.{Sent, sends_of, outer}
 
--- ---- what a parcel on the underlay carries
+-- of these sends this one, at place t, is the newest of the packet
+pub record IsNewest (sents : List Sent) (i t : ℕ) (sent : Sent) : Type 0 where
+  pub there : slice_get sents t ≡ Some sent
+  pub of : sent.packet ≡ i
+  pub newest : (u : ℕ) (later : Sent) → t < u → slice_get sents u ≡ Some later → later.packet ≡ i → ⊥
 
--- a newer send counts before an older one where it is of the packet
-abbrev pub newer_sent : ℕ → Option Sent → Option Sent → Option Sent
-newer_sent i None older = older
-newer_sent i (Some sent) older = if sent.packet == i then Some sent else older
-
--- the newest send of the packet in a history; none where it was never sent
-unfoldable pub last_sent : Plan → List Event → ℕ → Option Sent
-last_sent plan [] i = None
-last_sent plan (e ∷ h) i = newer_sent i (sent_by plan h e) (last_sent plan h i)
-
--- the packet was sent, and the parcel's bytes are those of its newest send
+-- the packet was sent, and the parcel's bytes are the underlay's packet of its newest send
 pub record IsSentBy (plan : Plan) (h : List Event) (p : ParcelView) : Type 0 where
+  pub t : ℕ
   pub sent : Sent
-  pub newest : last_sent plan h p.packet ≡ Some sent
-  pub bytes : wire_of p ≡ sent_bytes plan sent
+  pub newest : IsNewest (sends_of plan h) p.packet t sent
+  pub bytes : outer plan h t ≡ Some (wire_of p)

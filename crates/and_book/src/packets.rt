@@ -19,7 +19,7 @@ use and_policy::{Decision, GateDecision, Landing, Leaving, Outcome};
 impl Book {
     /// The actor takes the first packet of its queue: a host worker from `out` only where `wire` is empty. The parcel is the
     /// actor's until it settles the packet. From `wire` it has the outer bytes of the send that put it there, the packet's
-    /// newest one. It needs room for two events beside those that settle the packets in hand: its own, and the one that settles
+    /// newest one in the underlay. It needs room for two events beside those that settle the packets in hand: its own, and the one that settles
     /// this packet.
     pub fn take(&mut self, seat: u32, actor: Actor) -> (Held, Parcel)
         requires seat { IsSeat self.old seat actor }

@@ -13,6 +13,7 @@ use and_events::{Line, Plan};
 use and_kept::{Progress, Traffic};
 use and_policy::NoMemory;
 use and_ports::Ports;
+use and_turn::Tale;
 use std::alloc::Global;
 use std::marker::Model;
 
@@ -39,6 +40,23 @@ impl Model for Book {
     ghost view = { view_of };
 
     ghost invariant = { IsBook };
+}
+
+/// For the turn lock: the book's lines, each of its seat, under its plan and its number of threads, which no call changes.
+impl Tale for Book {
+    type Line = Line;
+
+    type Root = (Plan, u32);
+
+    ghost lines = { λ b. b.lines };
+
+    ghost seat_of = { λ l. l.seat };
+
+    ghost root = { λ b. (b.plan, b.threads) };
+
+    fn line_count(&self) -> u64 {
+        self.lines.len() as u64
+    }
 }
 
 impl Book {

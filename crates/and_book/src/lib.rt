@@ -7,7 +7,8 @@
 //! A parcel that is sent to a node gets its outer headers as it enters that node's queue, so what [`Book::take`] hands out from
 //! there has the outer bytes of its packet's newest send. The frame is neither moved nor copied.
 //!
-//! It stands on `and_laws` for what holds in every run, and on `and_kept` for the parts of the state.
+//! It stands on `and_laws` for what holds in every run, on `and_kept` for the parts of the state, and on `and_turn`, whose
+//! lock hands a book from thread to thread.
 #![tactic(auto)]
 
 mod book;

@@ -45,7 +45,7 @@ pub(crate) fn make_plan(alloc: Global) -> Result<Plan, NoMemory>
 
 // A book of that plan with room for its two events.
 #[tactic(auto, using(crate::proofs::BookLemmas::small_sound, crate::proofs::BookLemmas::small_built))]
-fn make_book(alloc: Global) -> Result<Book, NoMemory>
+pub(crate) fn make_book(alloc: Global) -> Result<Book, NoMemory>
     ensures plan { IfOk result (λ b. b.plan ≡ small_plan) }
     ensures threads { IfOk result (λ b. b.threads ≡ 0) }
     ensures lines { IfOk result (λ b. b.lines ≡ []) }

@@ -1,5 +1,5 @@
 -- Actors that take packets: their numbers and places tell them apart, and two with one hand work at one node.
-use Rattle.std.proofs.Common.{◌≡◌, ◌+◌, ◌<◌, ◌≤◌, refl, ap, arith, ⊎_elim}
+use Rattle.std.proofs.Common.{◌≡◌, ℕ, ◌+◌, ◌*◌, ◌<◌, ◌≤◌, refl, ap, arith, ⊎_elim}
 use Rattle.std.proofs.lemmas.Bool.{cases_lt}
 use Rattle.std.proofs.lemmas.Nat.{mul-add-lt}
 use Rattle.and_events.specs.declared.event.Actor.{Actor}
@@ -144,3 +144,39 @@ same_kind s a (HostInstall h) q is is' t t' e may = absurd t'
 same_kind s a (GateInstall g) q is is' t t' e may = absurd t'
 same_kind s a Controller q is is' t t' e may = absurd t'
 same_kind s a Driver q is is' t t' e may = absurd t'
+
+-- ---- actors by number
+
+same_row : (workers h w h' w' : ℕ) → w < workers → w' < workers → h * workers + w ≡ h' * workers + w' → h ≡ h'
+same_row workers h w h' w' l l' e =
+    ⊎_elim (λ (m : h < h'). absurd (omega (arith, mul-add-lt h workers w h' m l, e)))
+    (λ (m : h' ≤ h).
+    ⊎_elim (λ (n : h' < h). absurd (omega (arith, mul-add-lt h' workers w' h n l', e)))
+    (λ (n : h ≤ h'). omega arith) (cases_lt h' h))
+    (cases_lt h h')
+
+same_worker : (v : Settings) (h w h' w' : ℕ) → w < v.workers → w' < v.workers → actor_number v (Worker h w) ≡ actor_number v (Worker h' w') → Worker h w ≡ Worker h' w'
+same_worker v h w h' w' l l' e =
+    let row : h ≡ h' = same_row v.workers h w h' w' l l' (omega (arith, e)) in
+    let rows : h * v.workers ≡ h' * v.workers = ap (λ n. n * v.workers) row in
+    let column : w ≡ w' = omega (arith, rows, e) in
+    cc
+
+abbrev Below : Settings → Actor → Type 0
+Below v (Worker h w) = h * v.workers + w < v.hosts * v.workers
+Below v _ = Unit {0}
+
+below : (v : Settings) (a : Actor) → IsActor v a → Below v a
+below v (Worker h w) is = let l = mul-add-lt h v.workers w v.hosts is.0 is.1 in omega (arith, l)
+below v _ is = tt
+
+-- two actors of one number are one
+pub same_actor : (v : Settings) (a b : Actor) → IsActor v a → IsActor v b → actor_number v a ≡ actor_number v b → a ≡ b
+same_actor v (HostInstall h) (HostInstall h') is is' e = ap HostInstall e
+same_actor v (GateInstall g) (GateInstall g') is is' e = let same : g ≡ g' = omega (arith, e) in ap GateInstall same
+same_actor v (Worker h w) (Worker h' w') is is' e = same_worker v h w h' w' is.1 is'.1 e
+same_actor v (Coproc h) (Coproc h') is is' e = let same : h ≡ h' = omega (arith, e) in ap Coproc same
+same_actor v (Gateway g) (Gateway g') is is' e = let same : g ≡ g' = omega (arith, e) in ap Gateway same
+same_actor v Controller Controller is is' e = refl
+same_actor v Driver Driver is is' e = refl
+same_actor v a b is is' e = let low = below v a is in let low' = below v b is' in absurd (omega (arith, is, is', e, low, low'))

@@ -49,4 +49,7 @@ pub mod Holding
 pub mod Knowing
 pub mod Standing
 pub mod Deciding
+pub mod Choosing
+pub mod OneEvent
+pub mod SameRuns
 pub mod Counted

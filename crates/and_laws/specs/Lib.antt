@@ -11,3 +11,4 @@ pub mod Targets
 pub mod Stages
 pub mod Progress
 pub mod Decided
+pub mod Choices

@@ -34,6 +34,7 @@
 //! `Sizes`, and its own laws. The laws of the other components stay as they are, because a state's other fields compute.
 #![tactic(auto)]
 
+mod choices;
 mod ends;
 mod fresh;
 mod just;
@@ -45,6 +46,7 @@ mod programmes;
 mod progress;
 mod targets;
 
+pub use choices::{choices_tell_events, plain_runs_are_one};
 pub use ends::{all_done_at_the_end, one_fate_at_the_end};
 pub use fresh::decisions_are_fresh;
 pub use just::{fates_are_just, offloads_lead_right, places_follow_decisions};

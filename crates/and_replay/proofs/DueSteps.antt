@@ -1,11 +1,14 @@
 -- The step that is due in a run of a built plan: its entry, its packet, and which step is the last.
-use Rattle.std.proofs.Common.{◌≡◌, ℕ, zero, suc, ◌+◌, ◌<◌, List, [], ◌∷◌, ◌++◌, length, refl, sym, ap, ◌∙◌, subst, arith, Some, None, IsOk}
+use Rattle.std.proofs.Common.{◌≡◌, ℕ, zero, suc, ◌+◌, ◌<◌, List, [], ◌∷◌, ◌++◌, length, refl, sym, ap, ◌∙◌, subst, arith, Option, Some, None, IsOk}
 use Rattle.std.specs.Prelude.{slice_get, slice_index_or, unwrap_or}
 use Rattle.std.proofs.lemmas.Option.{unwrap_or-slice_get, slice_get_within}
 use Rattle.and_policy.specs.declared.entry.Entry.{Entry}
+use Rattle.and_policy.specs.declared.entry.EntryFault.{EntryFault}
+use Rattle.and_policy.specs.Fitting.{fits}
 use Rattle.and_policy.specs.Frames.{fields}
 use Rattle.and_events.specs.declared.event.Event.{Event}
 use Rattle.and_events.specs.declared.event.Event.TheVariants.{Append, Review, Hold, Free, Wait, Inject, Blackout, Resume, Finish}
+use Rattle.and_events.specs.declared.plan.ItemFault.{ItemFault}
 use Rattle.and_events.specs.declared.plan.Packet.{Packet}
 use Rattle.and_events.specs.declared.plan.Plan.{Plan}
 use Rattle.and_events.specs.declared.plan.Step.{Step}
@@ -14,9 +17,11 @@ use Rattle.and_events.specs.Complete.{IsComplete}
 use Rattle.and_events.specs.Legal.{Legal}
 use Rattle.and_events.specs.Programming.{programmes_after}
 use Rattle.and_events.specs.Run.{Run}
-use Rattle.and_events.specs.Script.{Script, at_start}
+use Rattle.and_events.specs.Script.{Script, at_start, entry_first}
 use Rattle.and_events.specs.Sound.{IsSound, IsBuiltStep, StepsFit, after_step, sent_after}
 use Rattle.and_events.specs.State.{State, state, after, step_of, word_of, packet_at, no_packet}
+use Rattle.and_laws.specs.Scripted.{script_at}
+use Rattle.and_laws.proofs.Following.{follows}
 use Rattle.and_laws.proofs.Steps.{does}
 use Rattle.and_book.specs.Views.{BookView, now, with_line}
 use Rattle.and_replay.proofs.Adding.{now_after}
@@ -38,6 +43,15 @@ due_packet plan h i sound told =
     }
 
 -- ---- the entry
+
+none_first : (fault : Option EntryFault) (other : Option ItemFault) → entry_first fault other ≡ None → fault ≡ None
+none_first None other e = refl
+none_first (Some fault) other e = absurd (cc)
+
+pub entry_fits : (plan : Plan) (h : List Event) (e : Entry) → IsSound plan → Run plan h → slice_get plan.steps (state plan h).next ≡ Some (steps.Append e) → fits (Some plan.settings.hosts) (state plan h).programmes.log e ≡ None
+entry_fits plan h e sound r told =
+    let d = (does plan h (state plan h).next (steps.Append e) sound refl told).fits in
+    ap (λ k. fits (Some plan.settings.hosts) k e) (follows plan h sound r).log ∙ none_first (fits (Some plan.settings.hosts) (script_at plan h).log e) _ d.0
 
 log_by : (plan : Plan) (s : State) (n : ℕ) (e : Entry) → slice_get plan.steps n ≡ Some (steps.Append e) → (after plan s (Append n)).programmes.log ≡ s.programmes.log ++ e ∷ []
 unfolding after word_of programmes_after

@@ -1,65 +1,31 @@
 //! What the log says of packets, found without looking back over it.
-ghost use Rattle.std.specs.Prelude.{◌≡◌, ◌<◌, ℕ, nat_eq, [], ◌∷◌, ◌++◌, cond, Some, List, OnOk, unwrap_or};
+ghost use Rattle.std.specs.Prelude.{◌≡◌, ◌<◌, ℕ, nat_eq, [], ◌∷◌, ◌++◌, cond, Option, None, List, OnOk, unwrap_or};
 ghost use Rattle.std.specs.HashMap as hash;
 ghost use Rattle.and_policy.specs.declared.entry.Entry.{Entry};
 ghost use Rattle.and_policy.specs.Egress as egresses;
+ghost use Rattle.and_policy.specs.Fitting.{fits};
 ghost use Rattle.and_policy.specs.Ingress as ingresses;
 ghost use Rattle.and_policy.specs.Logs as logs;
 ghost use Rattle.and_policy.specs.Owners as places;
 ghost use Rattle.and_events.specs.Sound.{IsBuiltEntry};
-ghost use Rattle.and_replay.specs.Indexes.{IsIndex, leaving_hover};
+ghost use Rattle.and_replay.specs.Indexes.{AreRules, IsIndex, leaving_hover};
 
 use and_events::Items;
 use and_policy::plain::verdict;
 use and_policy::{
-    Dest, Entry, Exit, Landing, Leaving, Located, Name, NoMemory, Routed, Rule, Side, Tuple,
-    Verdict, flow_hash,
+    Dest, Entry, Exit, Landing, Leaving, Located, Name, NoMemory, Register, Routed, Rule, Side,
+    Tuple, Verdict, flow_hash,
 };
 use std::alloc::Global;
 use std::collections::HashMap;
-use std::hash::Hash;
-
-/// Network and address of a VM.
-#[derive(Debug, Clone, Copy, PartialEq, Eq)]
-pub struct Home {
-    /// The network.
-    pub net: u32,
-    /// The IPv4 address.
-    pub ip: u32,
-}
 
 /// What the entries up to now say of packets.
 #[derive(Drop)]
 pub struct Index {
     /// The rules of each network, in the order of the log.
     pub rules: HashMap<u32, Items<Rule>>,
-    /// The VM of each network and address.
-    pub owners: HashMap<(u32, u32), u32>,
-    /// The network and the address of each VM.
-    pub homes: HashMap<u32, Home>,
-    /// The host of each VM.
-    pub places: HashMap<u32, u32>,
-}
-
-// Puts the value at the key, where it has none.
-fn put_first<K: Eq + Hash + Drop, V: Copy>(
-    map: &mut HashMap<K, V>,
-    key: K,
-    value: V,
-) -> Result<(), NoMemory>
-    ensures { OnOk result ((q : K) → hash.get K.eq map.new q ≡ cond (K.eq key q) (Some (unwrap_or (hash.get K.eq map.old key) value)) (hash.get K.eq map.old q)) }
-{
-    let first = map.get(&key).copied().unwrap_or(value);
-    map.insert(key, first).map_err(|_| NoMemory)?;
-    Ok(())
-}
-
-// Puts the value at the key, in place of the one that is there.
-fn put_last(map: &mut HashMap<u32, u32>, key: u32, value: u32) -> Result<(), NoMemory>
-    ensures { OnOk result ((q : ℕ) → hash.get nat_eq map.new q ≡ cond (nat_eq key q) (Some value) (hash.get nat_eq map.old q)) }
-{
-    map.insert(key, value).map_err(|_| NoMemory)?;
-    Ok(())
+    /// The VMs.
+    pub register: Register,
 }
 
 // Puts the rule behind those of the network.
@@ -76,6 +42,24 @@ fn push_at(
     rules.push(rule)?;
     map.insert(net, rules).map_err(|_| NoMemory)?;
     Ok(())
+}
+
+// The rules after one entry more.
+fn note_rule(
+    alloc: Global,
+    map: &mut HashMap<u32, Items<Rule>>,
+    entry: Entry,
+) -> Result<(), NoMemory>
+    requires { IsBuiltEntry entry }
+    ensures { OnOk result ((k : List Entry) → AreRules map.old k → AreRules map.new (k ++ entry ∷ [])) }
+{
+    match entry {
+        Entry::AddRule { net, rule } => {
+            push_at(alloc, map, net, rule)?;
+            Ok(())
+        }
+        _ => Ok(()),
+    }
 }
 
 // The number of what denied, or 0 for the implied verdict.
@@ -111,47 +95,19 @@ impl Index {
     {
         Index {
             rules: HashMap::new(alloc),
-            owners: HashMap::new(alloc),
-            homes: HashMap::new(alloc),
-            places: HashMap::new(alloc),
+            register: Register::new(alloc),
         }
     }
 
-    // Adds a VM.
-    fn add_vm(&mut self, vm: u32, net: u32, mac: u64, ip: u32, host: u32) -> Result<(), NoMemory>
-        ensures { OnOk result ((k : List Entry) → IsIndex self.old k → IsIndex self.new (k ++ Entry.AddVm vm net mac ip host ∷ [])) }
-    {
-        put_first(&mut self.owners, (net, ip), vm)?;
-        put_first(&mut self.homes, vm, Home { net, ip })?;
-        put_last(&mut self.places, vm, host)?;
-        Ok(())
-    }
-
-    // Adds a rule.
-    fn add_rule(&mut self, alloc: Global, net: u32, rule: Rule) -> Result<(), NoMemory>
-        requires { IsBuiltEntry (Entry.AddRule net rule) }
-        ensures { OnOk result ((k : List Entry) → IsIndex self.old k → IsIndex self.new (k ++ Entry.AddRule net rule ∷ [])) }
-    {
-        push_at(alloc, &mut self.rules, net, rule)?;
-        Ok(())
-    }
-
-    /// Adds an entry. After want of memory the index is of no log.
+    /// Adds an entry that fits. After want of memory the index is of no log.
     pub(crate) fn append(&mut self, alloc: Global, entry: Entry) -> Result<(), NoMemory>
         requires { IsBuiltEntry entry }
-        ensures { OnOk result ((k : List Entry) → IsIndex self.old k → IsIndex self.new (k ++ entry ∷ [])) }
+        ensures { OnOk result ((hosts : Option ℕ) (k : List Entry) → fits hosts k entry ≡ None → IsIndex self.old k → IsIndex self.new (k ++ entry ∷ [])) }
     {
-        match entry {
-            Entry::AddVm {
-                vm,
-                net,
-                mac,
-                ip,
-                host,
-            } => self.add_vm(vm, net, mac, ip, host),
-            Entry::AddRule { net, rule } => self.add_rule(alloc, net, rule),
-            _ => Ok(()),
-        }
+        note_rule(alloc, &mut self.rules, entry)?;
+        self.register.room()?;
+        self.register.append(&entry);
+        Ok(())
     }
 
     // The rules of the network.
@@ -168,13 +124,13 @@ impl Index {
     fn exit(&self, vm: u32, tuple: &Tuple) -> Exit
         ensures { (k : List Entry) → IsIndex self.now k → result ≡ egresses.egress k vm tuple.now }
     {
-        let Some(home) = self.homes.get(&vm).copied() else {
+        let Some(residence) = self.register.residence(vm) else {
             return Exit::NoVm;
         };
-        if tuple.source != home.ip {
+        if tuple.source != residence.ip {
             return Exit::Spoofed;
         }
-        exit_by(verdict(Side::Egress, tuple, self.rules_of(home.net)))
+        exit_by(verdict(Side::Egress, tuple, self.rules_of(residence.net)))
     }
 
     /// What becomes of a packet that leaves this VM, where no offload order lives: it costs the rules of the VM's network,
@@ -201,7 +157,7 @@ impl Index {
     pub(crate) fn landing(&self, net: u32, tuple: &Tuple) -> Landing
         ensures { (k : List Entry) → IsIndex self.now k → result ≡ ingresses.landing k net tuple.now }
     {
-        let Some(vm) = self.owners.get(&(net, tuple.destination)).copied() else {
+        let Some(vm) = self.register.owner(net, tuple.destination) else {
             return Landing::NoOwner;
         };
         let verdict = verdict(Side::Ingress, tuple, self.rules_of(net));
@@ -212,27 +168,12 @@ impl Index {
         }
     }
 
-    /// The host of a VM.
-    pub(crate) fn place(&self, vm: u32) -> Option<u32>
-        ensures { (k : List Entry) → IsIndex self.now k → result ≡ places.place k vm }
-    {
-        self.places.get(&vm).copied()
-    }
-
-    // The host of the address's owner.
-    fn owner_place(&self, net: u32, address: u32) -> Option<u32>
-        ensures { (k : List Entry) → IsIndex self.now k → result ≡ places.owner_place k net address }
-    {
-        let vm = self.owners.get(&(net, address)).copied()?;
-        self.places.get(&vm).copied()
-    }
-
     /// Where the route of the network leads for the address: there are no routes, so it stays in the network.
     pub(crate) fn routed(&self, net: u32, address: u32) -> Routed
         ensures { (k : List Entry) → IsIndex self.now k → result ≡ places.routed k net address }
     {
         let by = Name::Implied;
-        match self.owner_place(net, address) {
+        match self.register.owner_place(net, address) {
             None => Routed::NoOwner { by },
             Some(host) => Routed::To { by, net, host },
         }
@@ -242,7 +183,7 @@ impl Index {
     pub(crate) fn located(&self, net: u32, address: u32) -> Located
         ensures { (k : List Entry) → IsIndex self.now k → result ≡ places.located k net address }
     {
-        match self.owner_place(net, address) {
+        match self.register.owner_place(net, address) {
             None => Located::NoOwner,
             Some(host) => Located::To { host },
         }

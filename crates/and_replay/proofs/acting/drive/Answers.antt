@@ -11,7 +11,7 @@ use Rattle.and_events.specs.State.{no_packet}
 use Rattle.and_book.specs.Views.{now}
 use Rattle.and_replay.specs.Indexes.{IsIndex}
 use Rattle.and_replay.proofs.Adding.{added, log_kept}
-use Rattle.and_replay.proofs.DueSteps.{due_packet, log_longer, no_other}
+use Rattle.and_replay.proofs.DueSteps.{due_packet, entry_fits, log_longer, no_other}
 use Rattle.and_replay.proofs.acting.drive.Goals as goal
 
 pub parcel_of-requires-clause-there : goal.parcel_of-requires-clause-there
@@ -42,7 +42,8 @@ returns-in_ok-append-in-Append-clause-index c =
     let b = c.args.book.now in
     let told : slice_get b.plan.steps (now b).next ≡ Some (steps.Append c.in-Append.entry) = c.in-Append.ensures.due in
     subst (λ (k : List Entry). IsIndex c.append.new.self k) (sym (log_longer b c.append-in-Append.new.self c.in-Append.entry c.append-in-Append.ensures told))
-    (c.in_ok-append-in-Append.ensures (now b).programmes.log c.requires.index)
+    (c.in_ok-append-in-Append.ensures (Some b.plan.settings.hosts) (now b).programmes.log
+    (entry_fits b.plan (past b.lines) c.in-Append.entry c.is_run.ensures.sound c.is_run.ensures.run told) c.requires.index)
 
 pub returns-in_ok-parcel-in-Inject-clause-adds :
     goal.returns-in_ok-parcel-in-Inject-clause-adds

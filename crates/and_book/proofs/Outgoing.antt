@@ -427,15 +427,6 @@ first_sent plan h roads node q from p all there place is first =
     first_of (IsSentBy plan h) (parcels_at roads.parcels (queue_place plan.settings node Wire)) p (all.outers node there)
     (subst (λ k. slice_get (parcels_at roads.parcels k) 0 ≡ Some p) at first)
 
-pub handles_node : (v : Settings) (a : Actor) → IsActor v a → Handles a → IsNode v (node_of a)
-handles_node v (Worker h w) is t = is.0
-handles_node v (Coproc h) is t = is
-handles_node v (Gateway g) is t = is
-handles_node v (HostInstall h) is t = absurd t
-handles_node v (GateInstall g) is t = absurd t
-handles_node v Controller is t = absurd t
-handles_node v Driver is t = absurd t
-
 -- ---- takes and injections
 
 pub taken_from : (plan : Plan) (h : List Event) (a : Actor) (q : Queue) (i : ℕ) (roads roads' : Roads) (hand from : ℕ) (held : Held) → roads'.flow ≡ flow_after roads.flow (Grab hand from held) → roads'.parcels ≡ without_first roads.parcels from → HasParcels plan h roads → HasParcels plan (Take a q i ∷ h) roads'

@@ -10,7 +10,7 @@ ghost use Rattle.and_book.specs.Views.{held};
 
 use crate::nets::nets_of;
 use and_events::{Line, Plan};
-use and_kept::{Progress, Traffic};
+use and_kept::{Progress, Traffic, count_hands, count_nodes};
 use and_policy::NoMemory;
 use and_ports::Ports;
 use and_turn::Tale;
@@ -72,7 +72,7 @@ impl Book {
     {
         let settings = plan.settings;
         let traffic = Traffic::make(alloc, settings, plan.packets.len())?;
-        let nodes = settings.hosts as usize + settings.gateways as usize;
+        let nodes = count_nodes(settings) as usize;
         let progress = Progress::make(alloc, nodes, plan.log.len() as u32, plan.names.len())?;
         let ports = Ports::make(alloc, settings.hosts, plan.names.len() as u32)?;
         let nets = nets_of(alloc, plan.log.as_slice(), plan.names.len())?;
@@ -98,9 +98,7 @@ impl Book {
     {
         let _ = alloc;
         let settings = self.plan.settings;
-        let hands = settings.hosts as usize * settings.workers as usize
-            + settings.hosts as usize
-            + settings.gateways as usize;
+        let hands = count_hands(settings) as usize;
         match self.lines.reserve(n as usize + hands) {
             Ok(()) => Ok(()),
             Err(_) => Err(NoMemory),

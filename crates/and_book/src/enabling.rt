@@ -6,7 +6,7 @@ ghost use Rattle.and_kept.specs.Numbers.{count_below};
 ghost use Rattle.and_book.specs.Enabling.{IsStill, IsKnownAtHome, CanDo, IsInjectable, CanAct, Acts, acts_by, vm_in};
 
 use and_events::{Actor, Items, Packet, Step, actor_count, is_actor};
-use and_kept::{Progress, Traffic};
+use and_kept::{Progress, Traffic, count_nodes};
 
 // Whether all is installed, no packet is queued and none in hand.
 fn is_still(progress: &Progress, traffic: &Traffic) -> bool
@@ -122,7 +122,7 @@ pub(crate) fn nth_acting(progress: &Progress, traffic: &Traffic, driver: bool, k
     }
     let settings = traffic.settings();
     if k - ready < traffic.busy_count() {
-        return settings.hosts + settings.gateways + traffic.nth_busy(k - ready);
+        return count_nodes(settings) + traffic.nth_busy(k - ready);
     }
     actor_count(settings) - 1
 }

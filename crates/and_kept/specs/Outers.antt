@@ -1,14 +1,20 @@
 -- The outer headers that a send gives a parcel.
-use Rattle.std.specs.Prelude.{ℕ, false, List}
+use Rattle.std.specs.Prelude.{ℕ, ◌<◌, ◌^◌, false, List}
 use Rattle.and_policy.specs.declared.packet.Tuple.{Tuple}
 use Rattle.and_policy.specs.FlowHash.{flow_hash}
 use Rattle.and_policy.specs.Outer.{outer_header, entropy_port}
 use Rattle.and_parcel.specs.Parcels.{ParcelView}
 use Rattle.and_events.specs.declared.event.Node.{Node}
+use Rattle.and_events.specs.declared.event.Node.TheVariants.{Host, Gate}
 use Rattle.and_events.specs.declared.event.Endpoint.{Endpoint}
 use Rattle.and_events.specs.Flow.{Move, Send, SealLater}
 use Rattle.and_events.specs.OuterPackets.{source_address, endpoint_address}
 use Rattle.and_kept.specs.Lanes.{with_parcel}
+
+-- the node's number fits its underlay address
+abbrev pub HasAddress : Node → Type 0
+HasAddress (Host h) = h < 2 ^ 16
+HasAddress (Gate g) = g < 2 ^ 16
 
 -- the parcel with the outer headers of a send: from which node, the tuple, the hops left, the network, and whereto
 abbrev pub wrapped : Node → Tuple → ℕ → ParcelView → ℕ → Endpoint → ParcelView

@@ -93,14 +93,6 @@ fn hand_node(settings: Settings, hand: u32) -> u32
     }
 }
 
-/// How many hands there are.
-pub(crate) fn count_hands(settings: Settings) -> u32
-    requires { IsSmall settings }
-    ensures { result ≡ hand_count settings }
-{
-    settings.hosts * settings.workers + settings.hosts + settings.gateways
-}
-
 // Whether forwarding is held at a node.
 fn is_held(held: &Vec<bool>, node: u32) -> bool
     requires { node < length held.now.items }

@@ -7,8 +7,8 @@ ghost use Rattle.and_kept.specs.Busy as spec;
 ghost use Rattle.and_kept.specs.Lanes.{parcels_at, with_parcel, without_first};
 ghost use Rattle.and_kept.specs.Numbers.{count_below};
 
-use crate::busy::{count_hands, refresh, takers};
-use crate::count::no_marks;
+use crate::busy::{refresh, takers};
+use crate::count::{count_hands, count_nodes, no_marks};
 use crate::hands::Hands;
 use crate::numbers::NumberSet;
 use crate::queues::Queues;
@@ -52,7 +52,7 @@ impl Hall {
         }) }
     {
         let queues = Queues::make(alloc, settings)?;
-        let nodes = settings.hosts + settings.gateways;
+        let nodes = count_nodes(settings);
         let count = count_hands(settings);
         let hands = Hands::make(alloc, count as usize)?;
         let held = no_marks(alloc, nodes as usize)?;

@@ -27,6 +27,7 @@ mod queues;
 mod settling;
 mod traffic;
 
+pub use count::{count_hands, count_nodes};
 pub use numbers::NumberSet;
 pub use progress::Progress;
 pub use settling::{settle_gate, settle_landing, settle_leaving};

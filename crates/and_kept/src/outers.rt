@@ -1,22 +1,18 @@
 //! The outer headers of sends.
 ghost use Rattle.std.specs.Prelude.{◌≡◌, ◌<◌, ◌^◌};
 ghost use Rattle.and_events.specs.OuterPackets as packets;
-ghost use Rattle.and_events.specs.Places.{IsNode};
 ghost use Rattle.and_events.specs.State.{node_at};
-ghost use Rattle.and_kept.specs.Outers.{wrapped};
-ghost use Rattle.and_events.specs.Places.{IsSmall};
+ghost use Rattle.and_kept.specs.Outers.{HasAddress, wrapped};
 
-use and_events::{Endpoint, Node, Settings};
+use and_events::{Endpoint, Node};
 use and_parcel::{Outer, Parcel, entropy_port};
 use and_policy::{Tuple, flow_hash, host_address, redirect_address, route_address};
 
 // The underlay address from which a node sends.
-fn source_address(settings: Settings, node: Node) -> u32
-    requires small { IsSmall settings }
-    requires node { IsNode settings node }
+fn source_address(node: Node) -> u32
+    requires { HasAddress node }
     ensures { result ≡ packets.source_address node }
 {
-    let _ = settings;
     match node {
         Node::Host(host) => host_address(host),
         Node::Gate(gateway) => route_address(gateway),
@@ -24,12 +20,10 @@ fn source_address(settings: Settings, node: Node) -> u32
 }
 
 // The underlay address of an endpoint.
-fn endpoint_address(settings: Settings, target: Endpoint) -> u32
-    requires small { IsSmall settings }
-    requires target { IsNode settings (node_at target) }
+fn endpoint_address(target: Endpoint) -> u32
+    requires { HasAddress (node_at target) }
     ensures { result ≡ packets.endpoint_address target }
 {
-    let _ = settings;
     match target {
         Endpoint::Host(host) => host_address(host),
         Endpoint::Route(gateway) => route_address(gateway),
@@ -39,7 +33,6 @@ fn endpoint_address(settings: Settings, target: Endpoint) -> u32
 
 /// Writes the outer headers of a send into the parcel; the TTL is the hops left before the send.
 pub(crate) fn wrap_to(
-    settings: Settings,
     node: Node,
     tuple: &Tuple,
     hops: u32,
@@ -47,16 +40,15 @@ pub(crate) fn wrap_to(
     net: u32,
     target: Endpoint,
 )
-    requires small { IsSmall settings }
-    requires node { IsNode settings node }
-    requires target { IsNode settings (node_at target) }
+    requires node { HasAddress node }
+    requires target { HasAddress (node_at target) }
     requires hops { hops < 2 ^ 8 }
     requires net { net < 2 ^ 24 }
     ensures { parcel.new ≡ wrapped node tuple.now hops parcel.old net target }
 {
     parcel.wrap(&Outer {
-        source: source_address(settings, node),
-        destination: endpoint_address(settings, target),
+        source: source_address(node),
+        destination: endpoint_address(target),
         ttl: hops as u8,
         vni: net,
         source_port: entropy_port(flow_hash(tuple)),

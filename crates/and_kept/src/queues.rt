@@ -2,10 +2,10 @@
 ghost use Rattle.std.specs.Prelude.{◌≡◌, ℕ, ◌+◌, ◌^◌, ◌<◌, ◌≤◌, ◌↔◌, nat_le, List, [], length, IsTrue, IsErr, IfOk, OnOk, OnErr, Some, replicate, slice_get, slice_set, slice_index, if◌then◌else◌};
 ghost use Rattle.std.specs.List.{All};
 ghost use Rattle.and_events.specs.Flow.{queue_at, pushed, popped};
-ghost use Rattle.and_events.specs.Places.{queue_count, capacity_at};
+ghost use Rattle.and_events.specs.Places.{queue_count, capacity_at, IsSmall};
 ghost use Rattle.and_kept.specs.Lanes.{queue_of, grown, shrunk, parcels_at, with_parcel, without_first, AreEmpty};
 
-use crate::count::one_if;
+use crate::count::{count_queues, one_if};
 use and_events::Settings;
 use and_parcel::{Parcel, ParcelQueue};
 use and_policy::NoMemory;
@@ -33,7 +33,7 @@ impl Model for Queues {
 impl Queues {
     /// Empty queues with the capacities of the settings. All memory is taken here.
     pub fn make(alloc: Global, settings: Settings) -> Result<Queues, NoMemory>
-        requires { settings.hosts + settings.gateways < 2 ^ 10 }
+        requires { IsSmall settings }
         ensures numbers { IfOk result (λ queues. queues.numbers ≡ replicate (queue_count settings) []) }
         ensures parcels { IfOk result (λ queues. queues.parcels ≡ replicate (queue_count settings) []) }
         ensures capacities { IfOk result (λ queues. (q : ℕ) → q < queue_count settings → slice_index queues.capacities q ≡ capacity_at settings q) }
@@ -94,7 +94,7 @@ impl Queues {
 
 // The capacity of the queue at a place.
 fn capacity_of(settings: Settings, queue: u32) -> u32
-    requires { settings.hosts + settings.gateways < 2 ^ 10 }
+    requires { IsSmall settings }
     ensures { result ≡ capacity_at settings queue }
 {
     if queue < settings.hosts {
@@ -108,11 +108,11 @@ fn capacity_of(settings: Settings, queue: u32) -> u32
 
 // Empty queues, each with its capacity.
 fn make_queues(alloc: Global, settings: Settings) -> Result<Vec<ParcelQueue>, NoMemory>
-    requires { settings.hosts + settings.gateways < 2 ^ 10 }
+    requires { IsSmall settings }
     ensures { IfOk result (λ queues. AreEmpty settings (queue_count settings) queues.items) }
 {
     let mut queues: Vec<ParcelQueue> = Vec::new(alloc);
-    let count = 3 * settings.hosts + settings.gateways;
+    let count = count_queues(settings);
     for place in 0..count {
         let capacity = capacity_of(settings, place);
         let queue = ParcelQueue::make(alloc, capacity)?;

@@ -273,7 +273,6 @@ impl Traffic {
         let packet = parcel.packet();
         let hops = self.carried(packet).hops;
         wrap_to(
-            settings,
             node_of(from.actor),
             &from.tuple,
             hops,

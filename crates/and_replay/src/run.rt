@@ -5,10 +5,8 @@ ghost use Rattle.and_events.specs.Complete.{IsComplete};
 ghost use Rattle.and_events.specs.Ordered.{IsInPlainOrder};
 ghost use Rattle.and_events.specs.Run.{Run, past};
 ghost use Rattle.and_events.specs.Sound.{IsSound, IsBuilt};
-ghost use Rattle.and_events.specs.Places as places;
 ghost use Rattle.and_events.specs.Places.{IsWorker, IsGatewayWorker};
 ghost use Rattle.and_laws.specs.Bound.{bound};
-ghost use Rattle.and_events.specs.Places.{IsSmall};
 ghost use Rattle.and_book.specs.Views.{now, held};
 ghost use Rattle.and_replay.specs.Indexes.{IsIndex};
 ghost use Rattle.and_replay.specs.Slow.{AreSlow};
@@ -20,7 +18,8 @@ use crate::first::first_enabled;
 use crate::hands::Hands;
 use crate::index::Index;
 use and_book::Book;
-use and_events::{Actor, Node, Plan, Queue, Settings, hand_place};
+use and_events::{Actor, Node, Plan, Queue, hand_place};
+use and_kept::count_hands;
 use and_policy::NoMemory;
 use std::alloc::Global;
 
@@ -29,15 +28,6 @@ use std::alloc::Global;
 pub enum Turns {
     /// Of the enabled actors the one with the smallest number.
     Plain,
-}
-
-// How many hands there are.
-fn hand_count(settings: Settings) -> usize
-    requires { IsSmall settings }
-    ensures { result ≡ places.hand_count settings }
-{
-    let hosts = settings.hosts as usize;
-    hosts * settings.workers as usize + hosts + settings.gateways as usize
 }
 
 // A host worker takes a packet, or decides of the one in its hand.
@@ -163,7 +153,7 @@ pub fn replay_run(alloc: Global, plan: Plan, turns: Turns) -> Result<Book, NoMem
     ensures slow { IfOk result (λ b. AreSlow (past b.lines)) }
 {
     let Turns::Plain = turns;
-    let mut hands = Hands::make(alloc, hand_count(plan.settings))?;
+    let mut hands = Hands::make(alloc, count_hands(plan.settings) as usize)?;
     let mut index = Index::new(alloc);
     let mut book = Book::make(alloc, plan, 0)?;
     'turns: while is_due(&book) {

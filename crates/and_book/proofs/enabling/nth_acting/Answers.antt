@@ -28,7 +28,7 @@ returns-then-k-ready-2-clause-acts c =
     let p = c.args.progress.now in
     let m : NodeHolds = record { install = p.held; forward = t.held } in
     let hand = c.nth_busy.result in
-    subst (λ (s : Settings). acts_at t.settings p.programmes m t.flow c.args.driver (s.hosts + s.gateways + hand) ≡ true) (sym c.settings-settings.ensures.is)
+    subst (λ n. acts_at t.settings p.programmes m t.flow c.args.driver (n + hand) ≡ true) (sym (c.count_nodes.ensures ∙ ap (λ (s : Settings). node_count s) c.settings-settings.ensures.is))
     (at_hand t.settings p.programmes m t.flow c.args.driver hand c.nth_busy.ensures.there ∙ c.nth_busy.ensures.busy)
 
 pub returns-then-k-ready-2-clause-rank : goal.returns-then-k-ready-2-clause-rank
@@ -38,7 +38,7 @@ returns-then-k-ready-2-clause-rank c =
     let m : NodeHolds = record { install = p.held; forward = t.held } in
     let hand = c.nth_busy.result in
     let ready = c.ready_count-ready.ensures.is ∙ ap (count_below (is_ready p.programmes p.held)) c.requires.nodes in
-    subst (λ (s : Settings). count_below (acts_at t.settings p.programmes m t.flow c.args.driver) (s.hosts + s.gateways + hand) ≡ c.args.k) (sym c.settings-settings.ensures.is)
+    subst (λ n. count_below (acts_at t.settings p.programmes m t.flow c.args.driver) (n + hand) ≡ c.args.k) (sym (c.count_nodes.ensures ∙ ap (λ (s : Settings). node_count s) c.settings-settings.ensures.is))
     (omega (arith, hands_counted t.settings p.programmes m t.flow c.args.driver hand (omega (arith, c.nth_busy.ensures.there)), c.nth_busy.ensures.rank, ready, c.if-k-ready.false))
 
 pub returns-clause-acts : goal.returns-clause-acts

@@ -1,4 +1,4 @@
-use Rattle.std.proofs.Common.{◌+◌, ◌∙◌, refl, ap, subst, arith}
+use Rattle.std.proofs.Common.{◌∙◌, refl, ap, subst, arith}
 use Rattle.and_events.specs.declared.plan.Plan.{Plan}
 use Rattle.and_events.specs.Places.{queue_count}
 use Rattle.and_kept.specs.Lanes.{Roads}
@@ -20,7 +20,7 @@ pub invariant_of-result : goal.invariant_of-result
 invariant_of-result c =
     let plan : Plan = c.args.plan in
     let k : Kept = record { next = 0; progress = c.in_ok-progress.progress; ports = c.in_ok-ports.ports; roads = c.in_ok-traffic.traffic; nets = c.in_ok-nets.nets.items } in
-    keeps_start plan c.args.threads c.new.result.items k _ c.len-4.result (plan.settings.hosts + plan.settings.gateways) c.len.result c.requires.sound c.requires.built c.new.ensures.items refl refl
+    keeps_start plan c.args.threads c.new.result.items k _ c.len-4.result c.count_nodes-nodes.result c.len.result c.requires.sound c.requires.built c.new.ensures.items refl c.count_nodes-nodes.ensures
     c.len-4.ensures c.len.ensures c.in_ok-progress.ensures.programmes c.in_ok-ports.ensures (ap (λ (r : Roads). r.flow) c.in_ok-traffic.ensures) c.in_ok-progress.ensures.held (ap (λ (r : Roads). r.held) c.in_ok-traffic.ensures)
     (record {
       settings = ap (λ (r : Roads). r.settings) c.in_ok-traffic.ensures;

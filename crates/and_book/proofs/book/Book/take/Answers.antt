@@ -19,7 +19,8 @@ use Rattle.and_book.specs.Inside.{Kept, Keeps, kept_of}
 use Rattle.and_book.specs.Outers.{IsSentBy}
 use Rattle.and_book.proofs.More.{keeps_more, seen, room_kept, as_kept}
 use Rattle.and_book.proofs.Taking.{legal_take, after_take, one_held, first_parcel, hand_fits}
-use Rattle.and_book.proofs.Outgoing.{taken_from, first_sent, handles_node}
+use Rattle.and_kept.proofs.MovesLemmas.{actor_node}
+use Rattle.and_book.proofs.Outgoing.{taken_from, first_sent}
 use Rattle.and_book.proofs.book.Book.take.Goals as goal
 
 pub take-parcel-requires-clause-actor : goal.take-parcel-requires-clause-actor
@@ -106,4 +107,4 @@ returns-clause-wire c is =
     let wire : q ≡ Wire = sym (ap (λ (h : Held). h.queue) c.take-parcel.ensures.held) ∙ is in
     subst (λ (b : BookView). IsSentBy b.plan (past b.lines) c.take-parcel.result.1) c.self.view_is
     (first_sent plan (past x.lines.items) k.roads (node_of a) q (source_place k.roads a) c.take-parcel.result.1 c.self.invariant.parcels
-    (handles_node plan.settings a ready.actor ready.handles) (ap (λ v. queue_place v (node_of a) q) c.self.invariant.sized.settings) wire c.take-parcel.ensures.parcel)
+    (actor_node plan.settings a ready.actor ready.handles) (ap (λ v. queue_place v (node_of a) q) c.self.invariant.sized.settings) wire c.take-parcel.ensures.parcel)

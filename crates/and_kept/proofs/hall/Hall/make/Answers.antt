@@ -13,7 +13,7 @@ invariant_of-result c =
       queues = ap length c.in_ok-queues.ensures.numbers ∙ length-replicate _ empty;
       capacities = c.in_ok-queues.ensures.capacities;
       hands = ap length c.in_ok-hands.ensures ∙ (length-replicate _ nothing ∙ c.count_hands-count.ensures);
-      held = ap length c.in_ok-held.ensures ∙ length-replicate _ false;
+      held = ap length c.in_ok-held.ensures ∙ (length-replicate _ false ∙ c.count_nodes-nodes.ensures);
       size = c.refresh.ensures.size ∙ (c.in_ok-busy.ensures.size ∙ c.count_hands-count.ensures);
       told = told_anew c.args.settings c.in_ok-queues.queues.numbers c.in_ok-hands.hands c.in_ok-held.held.items c.in_ok-busy.busy c.refresh.new.busy c.count_hands-count.result c.count_hands-count.ensures c.refresh.ensures.told;
     }

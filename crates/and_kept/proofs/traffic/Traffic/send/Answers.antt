@@ -4,14 +4,30 @@ use Rattle.and_events.specs.declared.event.Node.{Node}
 use Rattle.and_events.specs.declared.event.Queue.TheVariants.{Wire}
 use Rattle.and_events.specs.declared.plan.Settings.{Settings}
 use Rattle.and_events.specs.Flow.{Flow, Send, carried_in, pushed}
-use Rattle.and_events.specs.Places.{hand_place, queue_place}
+use Rattle.and_events.specs.Places.{hand_place, node_of, queue_place, IsSmall}
+use Rattle.and_events.specs.State.{node_at}
 use Rattle.and_kept.specs.Busy.{HallView}
-use Rattle.and_kept.specs.Outers.{wrapped}
+use Rattle.and_kept.specs.Outers.{HasAddress, wrapped}
 use Rattle.and_kept.specs.Settling.{queue_to}
 use Rattle.and_kept.specs.Lanes.{Roads, with_parcel}
 use Rattle.and_kept.specs.Moves.{hand_of, moved}
-use Rattle.and_kept.proofs.MovesLemmas.{sent_on}
+use Rattle.and_kept.proofs.MovesLemmas.{actor_node, addressed, sent_on}
 use Rattle.and_kept.proofs.traffic.Traffic.send.Goals as goal
+
+pub wrap_to-requires-clause-node : goal.wrap_to-requires-clause-node
+wrap_to-requires-clause-node c =
+    let t : Roads = c.args.self.now in
+    let is = actor_node t.settings c.args.from.actor c.requires.may.actor c.requires.may.handles in
+    let small = subst IsSmall c.settings-settings.ensures.is c.settings-settings.ensures.small in
+    let settings : c.self.inside.hall.settings ≡ t.settings = ap (λ (v : Roads). v.settings) c.self.view_is in
+    subst HasAddress (sym c.node_of.ensures) (addressed t.settings (node_of c.args.from.actor) (subst IsSmall settings small) is)
+
+pub wrap_to-requires-clause-target : goal.wrap_to-requires-clause-target
+wrap_to-requires-clause-target c =
+    let t : Roads = c.args.self.now in
+    let small = subst IsSmall c.settings-settings.ensures.is c.settings-settings.ensures.small in
+    let settings : c.self.inside.hall.settings ≡ t.settings = ap (λ (v : Roads). v.settings) c.self.view_is in
+    addressed t.settings (node_at c.args.target) (subst IsSmall settings small) c.requires.target
 
 pub returns-clause-moved : goal.returns-clause-moved
 returns-clause-moved c =

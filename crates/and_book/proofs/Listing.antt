@@ -87,6 +87,42 @@ module _ (plan : Plan) (s : State) where
   none_if (Some a) it = tt
   none_if None (actors, are, e) = none_listed actors are e
 
+-- ---- there is one
+
+in_longer : {X : Type 0} (y : X) (ys : List X) (x : X) → Contains ys x → Contains (y ∷ ys) x
+in_longer y ys x (k, l, e) = (suc k, omega (arith, l), e)
+
+module _ (v : Settings) where
+  abbrev Less : Actor → Actor → Type 0
+  Less a b = actor_number v a < actor_number v b
+
+  same_head : (x : Actor) (xs : List Actor) (y : Actor) (ys : List Actor) → All (Less x) xs → All (Less y) ys → (y ≡ x) ⊎ Contains ys x → (x ≡ y) ⊎ Contains xs y → x ≡ y
+  same_head x xs y ys low low' (inl e) there = sym e
+  same_head x xs y ys low low' (inr in_ys) (inl e) = e
+  same_head x xs y ys low low' (inr in_ys) (inr in_xs) = absurd (omega (arith, All-contains (Less y) ys x low' in_ys, All-contains (Less x) xs y low in_xs))
+
+  in_later : (x y : Actor) (ys : List Actor) (a : Actor) → x ≡ y → Less x a → (y ≡ a) ⊎ Contains ys a → Contains ys a
+  in_later x y ys a same less (inl e) = absurd (omega (arith, less, ap (actor_number v) (same ∙ e)))
+  in_later x y ys a same less (inr there) = there
+
+  same_members : (xs ys : List Actor) → Ascend v xs → Ascend v ys → ((a : Actor) → Contains xs a → Contains ys a) → ((a : Actor) → Contains ys a → Contains xs a) → xs ≡ ys
+  unfolding Ascend
+  same_members [] [] up up' to from = refl
+  same_members [] (y ∷ ys) up up' to from = let nowhere = from y (0, omega arith, refl) in absurd (omega (arith, nowhere.1))
+  same_members (x ∷ xs) [] up up' to from = let nowhere = to x (0, omega arith, refl) in absurd (omega (arith, nowhere.1))
+  same_members (x ∷ xs) (y ∷ ys) up up' to from =
+      let same = same_head x xs y ys up.0 up'.0 (in_rest y ys x (to x (0, omega arith, refl))) (in_rest x xs y (from y (0, omega arith, refl))) in
+      let rest = same_members xs ys up.1 up'.1
+      (λ a there. in_later x y ys a same (All-contains (Less x) xs a up.0 there) (in_rest y ys a (to a (in_longer x xs a there))))
+      (λ a there. in_later y x xs a (sym same) (All-contains (Less y) ys a up'.0 there) (in_rest x xs a (from a (in_longer y ys a there)))) in
+      cc
+
+pub only_list : (plan : Plan) (s : State) (xs ys : List Actor) → AreEnabled plan s xs → AreEnabled plan s ys → xs ≡ ys
+only_list plan s xs ys are are' =
+    same_members plan.settings xs ys are.ascend are'.ascend
+    (λ a there. let one = All-contains (λ b. IsActor plan.settings b × Enabled plan s b) xs a are.each there in are'.every a one.0 one.1)
+    (λ a there. let one = All-contains (λ b. IsActor plan.settings b × Enabled plan s b) ys a are'.each there in are.every a one.0 one.1)
+
 -- ---- the list
 
 module _ (plan : Plan) (h : List Event) (sound : IsSound plan) (built : IsBuilt plan) (r : Run plan h) (driver : Bool) (drives : IsTrue driver ↔ Enabled plan (state plan h) Driver) where

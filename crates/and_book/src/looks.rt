@@ -63,6 +63,13 @@ impl Book {
         }
     }
 
+    /// Law, at no cost when it runs: there is one list of the enabled actors in the order of their numbers.
+    pub fn enabled_once(&self)
+        ensures { (xs ys : List Actor) → AreEnabled self.now.plan (now self.now) xs → AreEnabled self.now.plan (now self.now) ys → xs ≡ ys }
+    {
+        let _ = &self.next;
+    }
+
     /// The enabled actor with the smallest number. It takes a few steps, however long the run is.
     pub fn first_enabled(&self) -> Option<Actor>
         ensures actor { IfSome result (λ a. IsActor self.now.plan.settings a) }

@@ -95,6 +95,7 @@ fn the_driver_alone_may_act(rt: HostRuntime) -> Result<(), Fail> {
     assert!(rt; !book.enabled(Actor::Worker { host: 0, index: 1 }));
     assert!(rt; !book.enabled(Actor::Worker { host: 0, index: 2 }));
     assert_eq!(rt; book.enabled_count(), 1);
+    book.enabled_once();
     assert!(rt; book.enabled_at(0) == Some(Actor::Driver));
     assert!(rt; book.enabled_at(1).is_none());
     Ok(())

@@ -1,16 +1,21 @@
 #!/usr/bin/env bash
-# 300 generated scenarios (scripts/generate.py, seeded) give the report and the trace that the model composes for them. They go to a folder
-# beside the program that is no part of the repository.
+# 300 generated scenarios (scripts/generate.py, seeded) give the report and the trace that the model composes for them, and the plain program
+# judges each trace legal, complete, in the plain order, just and fresh. They go to a folder beside the program that is no part of the repository.
 set -u
 cd "$(dirname "$0")/.." || exit 1
 program=crates/andromeda/out/andromeda
-[ -x "$program" ] || { echo "skipped: $program is not built"; exit 0; }
+judge=crates/rows/out/rows
+[ -x "$program" ] && [ -x "$judge" ] || { echo "skipped: $program or $judge is not built"; exit 0; }
 command -v python3 >/dev/null || { echo "skipped: python3 is not installed"; exit 0; }
 work=crates/andromeda/out/generated
+traces=()
 python3 scripts/generate.py "$work" 300 1 || { echo "failed: no scenarios were written"; exit 1; }
 for number in $(seq 0 299); do
   "$program" replay "$work/$number.json" "$work/$number.pcap" "$work/got" >"$work/got.report" || { echo "failed: scenario $number"; exit 1; }
   diff "$work/$number.report" "$work/got.report" || { echo "failed: the report of scenario $number differs"; exit 1; }
   diff "$work/$number.trace" "$work/got.trace" || { echo "failed: the trace of scenario $number differs"; exit 1; }
+  traces+=("$work/$number.json" "$work/$number.pcap" "$work/$number.trace")
 done
-echo "passed: 300 generated scenarios give the reports and traces that the model composes"
+"$judge" judge "${traces[@]}" >"$work/judged" || { echo "failed: the plain program refuses a trace"; grep "is judged" "$work/judged"; exit 1; }
+[ "$(grep -c "is legal, complete, in the plain order, just and fresh$" "$work/judged")" = 300 ] || { echo "failed: not every trace is judged"; exit 1; }
+echo "passed: 300 generated scenarios give the reports and traces that the model composes, and the plain program finds them right"

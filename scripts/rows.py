@@ -2,8 +2,8 @@
 """Writes the folders of the rows, crates/rows/data, or with --check says whether each is what this script composes.
 
 A row is a scenario and a capture; its expected texts are composed by the model of model.py, and what is known of a row
-beside the model, the lines that its trace and its report must have, is tested here. The list not-yet of that folder is
-kept by hand.
+beside the model, the lines that its trace and its report must have, is tested here. The lists not-yet and not-judged of that
+folder and its table changes are kept by hand.
 """
 
 import os
@@ -15,6 +15,9 @@ import sys
 import model
 
 DATA = os.path.join(os.path.dirname(os.path.abspath(__file__)), "..", "crates", "rows", "data")
+
+# What that folder has beside what is composed.
+BY_HAND = {"not-yet", "not-judged", "changes"}
 
 # TCP from 10.0.0.1 port 4096 to 10.0.0.2 port 80; the same with one byte of data; and with a checksum that makes the sealed sum 0.
 F1 = bytes.fromhex("020000000002020000000001080045000028000040004006"
@@ -90,6 +93,20 @@ def row(name, shows, scenario, data, trace="", report="", words=None, without=()
     """A row: its name, what it shows, its two files, lines that it must have, and what is not plain of it."""
     ROWS.append({"name": name, "shows": shows, "scenario": scenario, "capture": data, "trace": trace, "report": report,
                  "words": words, "without": without, "lengths": lengths or {}, "said": said, "more": more or {}})
+
+
+BEGINNINGS = []
+
+
+def beginning(name, shows, scenario, data, lines):
+    """A trace that no run of the program writes, since its turns are others: it goes on so behind the wait of the base script."""
+    BEGINNINGS.append({"name": name, "shows": shows, "scenario": scenario, "capture": data, "lines": lines})
+
+
+def begun(it):
+    """The files of such a trace."""
+    head = model.trace(model.replay(base().encode(), capture())).split("finish")[0]
+    return {"scenario.json": it["scenario"].encode(), "capture.pcap": it["capture"], "out.trace": (head + it["lines"]).encode()}
 
 
 def whole_runs():
@@ -177,9 +194,22 @@ def migrations():
     row("absent-port-is-redirected", "The port is gone, so a gateway redirects the packet to the owner's place.",
         base(SEND_2, TICK, hold("h1", "forward"), SEND_1, move("b", 0), resume("b"), free("h1", "forward"), settings=low), capture(F1, F1, F1),
         trace="ingress h1.w0 2 6 slow vm 1 absent g0 queued\nredirect g0.w 2 6 send h0 queued\ningress h0.w0 2 7 slow vm 1 running rule 1 deliver")
+    row("hairpin-without-a-hop", "The old host would send on, and the packet's one hop is spent.",
+        base(SEND_2, TICK, hold("h0", "install"), move("b", 2), resume("b"), SEND_1, hosts=3, settings=low + '"hop_limit":1,'), capture(F1, F1, F1),
+        trace="egress h0.w0 2 6 slow allow implied plain offload h1 7 queued\ningress h1.w0 2 6 slow vm 1 hairpin h2 hops", report="lost hops 3")
+    gone = [SEND_2, TICK, hold("h1", "forward"), SEND_1, move("b", 0), resume("b"), free("h1", "forward")]
+    row("absent-port-without-a-hop", "The port is gone, and the packet's one hop is spent.", base(*gone, settings=low + '"hop_limit":1,'),
+        capture(F1, F1, F1), trace="ingress h1.w0 2 6 slow vm 1 absent g0 hops", report="lost hops 3")
+    row("redirect-without-a-hop", "The gateway would redirect the packet, and its two hops are spent.", base(*gone, settings=low + '"hop_limit":2,'),
+        capture(F1, F1, F1), trace="ingress h1.w0 2 6 slow vm 1 absent g0 queued\nredirect g0.w 2 6 hops", report="lost hops 1\ndelivered 2")
     again = '{"do":"add_vm","vm":"c","net":7,"mac":"02:00:00:00:00:03","ip":"10.0.0.2","host":1}'
     row("address-used-again", "An address is free again once its VM is removed.", base(again, '{"do":"remove_vm","vm":"b"}', again, SEND), capture(F1),
         trace="vm 2 running rule 1 deliver", report="item 5 AddressTaken\nvm c sent 0 received 1")
+    beginning("two-packets-at-one-host", "A packet has come to the host of its VM, where another one waits to leave: the worker takes what has come.",
+              base(move("b", 0), resume("b"), SEND_1, SEND_1), capture(F1, F1),
+              "blackout 5\nresume 6\n" + "".join(f"announce {node} 5\ninstalled {node} 5\n" for node in ("h0", "h1", "g0")) + "unpin h1 1\n"
+              "inject 7 0 queued\ntake h0.w0 out 0\negress h0.w0 0 5 slow allow implied plain hover g0 queued\ntake g0.w wire 0\n"
+              "route g0.w 0 5 implied send h0 7 queued\ninject 8 1 queued\ntake h0.w0 wire 0\n")
 
 
 def sealings():
@@ -381,14 +411,24 @@ def all_files():
         part()
     folders = {it["name"]: composed(it) for it in ROWS}
     known_bytes(folders)
+    folders.update({it["name"]: begun(it) for it in BEGINNINGS})
     files = {f"{name}/{file}": data for name, folder in folders.items() for file, data in folder.items()}
     files["rows"] = "".join(f"{it['name']}\n" for it in ROWS).encode()
+    files["beginnings"] = "".join(f"{it['name']}\n" for it in BEGINNINGS).encode()
     readme = ["# Rows", "",
               "Each folder is a run: what goes in, and what must come out, byte for byte. `words` are the words of the command, one a line, where they are",
               "not `replay scenario.json capture.pcap out`; `lengths` names files that are filled with zeros to a length; `report` is what goes to standard",
               "output, `error` what goes to standard error, `status` the status where it is not 0; `without` names outputs that are not compared. The",
-              "program `rows` runs them all; `not-yet` lists those, and the outputs, that the program cannot give so far, with what they wait for.", ""]
-    readme += [f"- `{it['name']}`: {it['shows']}" for it in ROWS]
+              "program `rows` runs them all; `not-yet` lists those, and the outputs, that the program cannot give so far, with what they wait for.", "",
+              "Then the plain program, which computes the definitions of runs, judges each trace that a row has: whether it is legal, complete and in the",
+              "plain order, whether each packet has one fate, which has its reason, and whether its decisions are fresh. `beginnings` lists folders whose",
+              "trace is no whole run: they are legal, just and fresh. `not-judged` lists traces that cannot be judged yet, with what they wait for.", "",
+              "`changes` is a table of spoilt traces. A line has, with tabs between: the folder; the number of a line of its trace; what stands there in",
+              "its place (`-`: nothing, `+ TEXT`: this line before it); what the plain program must say; and why. `illegal LINE`: that line is the first",
+              "that is not legal. `unjust PACKET LINE`: up to that line, and not before, a fate of the packet is without its reason, while its decisions",
+              "are fresh up to the change. `stale PACKET LINE`: by that line, and not before, a decision about the packet is not fresh, while its fates have",
+              "their reasons.", ""]
+    readme += [f"- `{it['name']}`: {it['shows']}" for it in ROWS + BEGINNINGS]
     files["README.md"] = ("\n".join(readme) + "\n").encode()
     return files
 
@@ -396,7 +436,7 @@ def all_files():
 def main():
     files = all_files()
     if sys.argv[1:] == ["--check"]:
-        there = {os.path.relpath(os.path.join(at, name), DATA) for at, _, names in os.walk(DATA) for name in names} - {"not-yet"}
+        there = {os.path.relpath(os.path.join(at, name), DATA) for at, _, names in os.walk(DATA) for name in names} - BY_HAND
         wrong = sorted(there ^ set(files))
         for name, data in files.items():
             if name in there:
@@ -405,7 +445,7 @@ def main():
         for name in wrong:
             print(f"differs: {name}")
         return 1 if wrong else 0
-    for it in ROWS:
+    for it in ROWS + BEGINNINGS:
         shutil.rmtree(os.path.join(DATA, it["name"]), ignore_errors=True)
         os.makedirs(os.path.join(DATA, it["name"]))
     for name, data in files.items():

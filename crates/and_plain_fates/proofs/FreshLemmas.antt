@@ -34,16 +34,16 @@ taken_more plan events n d s a i was now less is before after =
 abbrev pub IsSince : Option ℕ → ℕ → Type 0
 IsSince taken at = (need : ℕ) × (taken ≡ Some need) × (need ≤ at)
 
-pub fresh_of : (plan : Plan) (h : List Event) (s : State) (a : Actor) (p i : ℕ) (taken : Option ℕ) (at : ℕ) (r x w y z : Bool) → s ≡ state plan h
-    → taken ≡ installed_at_take plan h a i → x ≡ (p == i) → (IsTrue r ↔ (IsTrue x → IsTrue w)) → (IsTrue w ↔ (IsTrue y × IsTrue z))
+pub fresh_of : (plan : Plan) (h : List Event) (s : State) (a : Actor) (i : ℕ) (taken : Option ℕ) (at : ℕ) (r y z : Bool) → s ≡ state plan h
+    → taken ≡ installed_at_take plan h a i → (IsTrue r ↔ (IsTrue y × IsTrue z))
     → (IsTrue y ↔ IsSince taken at) → (IsTrue z ↔ (at ≤ announced_of plan s (node_of a)))
-    → (IsTrue r ↔ (IsTrue (p == i) → FreshAt plan h a i at))
-fresh_of plan h s a p i taken at r x w y z is found same er ew ey ez =
-    let within : IsTrue w ↔ (IsSince taken at × (at ≤ announced_of plan s (node_of a))) = both_are w y z ew ey ez in (
-      (λ t yes. let now = within.0 (er.0 t (same ∙ yes)) in
+    → (IsTrue r ↔ FreshAt plan h a i at)
+fresh_of plan h s a i taken at r y z is found er ey ez =
+    let within : IsTrue r ↔ (IsSince taken at × (at ≤ announced_of plan s (node_of a))) = both_are r y z er ey ez in (
+      (λ t. let now = within.0 t in
           (subst (λ (m : Option ℕ). IsSince m at) found now.0, subst (λ (u : State). at ≤ announced_of plan u (node_of a)) is now.1)),
-      (λ fresh. er.1 (λ yes. let here = fresh (sym same ∙ yes) in
-          within.1 (subst (λ (m : Option ℕ). IsSince m at) (sym found) here.0, subst (λ (u : State). at ≤ announced_of plan u (node_of a)) (sym is) here.1))),
+      (λ fresh.
+          within.1 (subst (λ (m : Option ℕ). IsSince m at) (sym found) fresh.0, subst (λ (u : State). at ≤ announced_of plan u (node_of a)) (sym is) fresh.1)),
     )
 
 -- a test of a decision decides for the event that makes it

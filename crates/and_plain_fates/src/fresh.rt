@@ -6,7 +6,7 @@ ghost use Rattle.and_events.specs.State as states;
 ghost use Rattle.and_plain.specs.History.{history};
 ghost use Rattle.and_plain_fates.specs.Takes.{take_by};
 
-use crate::first::{actor_number, implies};
+use crate::first::actor_number;
 use and_events::{Actor, Event, Plan};
 use and_plain::{State, after, announced_of, both, installed_of, node_of, start};
 use and_policy::NoMemory;
@@ -40,9 +40,9 @@ fn take_after(
     }
 }
 
-/// What the actor's node had installed just before the actor's last take of the packet; none where it never took it.
-/// The oldest event comes first.
-pub fn installed_at_take(
+// What the actor's node had installed just before the actor's last take of the packet; none where it never took it.
+// The oldest event comes first.
+fn installed_at_take(
     alloc: Global,
     plan: &Plan,
     events: &[Event],
@@ -77,11 +77,23 @@ fn is_announced(plan: &Plan, s: &State, actor: Actor, at: u32) -> bool
     at <= announced_of(plan, s, node_of(actor))
 }
 
-// Whether the packets are the same.
-fn is_same(a: u32, b: u32) -> bool
-    ensures { result ≡ (a == b) }
+// Whether the actor's decision of the packet at this number is fresh.
+fn is_fresh_here(
+    alloc: Global,
+    plan: &Plan,
+    s: &State,
+    earlier: &[Event],
+    actor: Actor,
+    packet: u32,
+    at: u32,
+) -> Result<bool, NoMemory>
+    requires { s.now ≡ states.state plan.now (history earlier.now) }
+    ensures ok { IfOk result (λ yes. IsTrue yes ↔ spec.FreshAt plan.now (history earlier.now) actor packet at) }
 {
-    a == b
+    let taken = installed_at_take(alloc, plan, earlier, actor, packet)?;
+    let since = is_since(taken, at);
+    let announced = is_announced(plan, s, actor, at);
+    Ok(both(since, announced))
 }
 
 // Whether the actor's decision of `decided` at this number is fresh, where that is the packet.
@@ -98,13 +110,10 @@ fn is_fresh_at(
     requires { s.now ≡ states.state plan.now (history earlier.now) }
     ensures ok { IfOk result (λ yes. IsTrue yes ↔ (IsTrue (decided == packet) → spec.FreshAt plan.now (history earlier.now) actor packet at)) }
 {
-    let taken = installed_at_take(alloc, plan, earlier, actor, packet)?;
-    let since = is_since(taken, at);
-    let announced = is_announced(plan, s, actor, at);
-    let within = both(since, announced);
-    let same = is_same(decided, packet);
-    let fresh = implies(same, within);
-    Ok(fresh)
+    if decided != packet {
+        return Ok(true);
+    }
+    is_fresh_here(alloc, plan, s, earlier, actor, packet, at)
 }
 
 // Whether the event, after the earlier ones, is no decision about the packet that is not fresh.

@@ -25,7 +25,7 @@ mod sent;
 pub use behind::{Led, Left, egresses, routes};
 pub use complete::is_complete;
 pub use fate::{fate_of, fates};
-pub use fresh::{installed_at_take, is_fresh};
+pub use fresh::is_fresh;
 pub use just::is_just;
 pub use led::led_to;
 pub use order::is_in_plain_order;

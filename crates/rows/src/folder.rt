@@ -5,7 +5,7 @@ use anyhow::{Result, bail};
 use std::alloc::Global;
 
 /// The most bytes of a file of a row.
-const LONGEST: u64 = 40_000_000;
+pub const LONGEST: u64 = 40_000_000;
 
 /// The bytes of a file; nothing where it cannot be read.
 fn bytes_of<F: Files>(alloc: Global, files: &mut F, name: &str) -> Result<Option<Vec<u8>>> {

@@ -1,11 +1,10 @@
 //! Which actors may act.
-ghost use Rattle.std.specs.Prelude.{◌≡◌, ◌↔◌, ◌<◌, ◌⊎◌, ◌∷◌, ℕ, List, Option, Some, IsTrue, slice_get};
+ghost use Rattle.std.specs.Prelude.{◌≡◌, ◌↔◌, ◌<◌, ◌⊎◌, ℕ, Option, Some, IsTrue, slice_get};
 ghost use Rattle.and_events.specs.Flow as flows;
 ghost use Rattle.and_events.specs.Legal as spec;
 ghost use Rattle.and_events.specs.Places as places;
 ghost use Rattle.and_events.specs.declared.plan.Step as plan_steps;
 ghost use Rattle.and_events.specs.declared.event.Queue as queues;
-ghost use Rattle.and_events.specs.declared.event.Queue.TheVariants as queue_kinds;
 
 use crate::conditions::{can_announce, can_install};
 use crate::decisions::hand_of;

@@ -1,12 +1,9 @@
 //! When an event is legal.
-ghost use Rattle.std.specs.Prelude.{◌≡◌, ◌↔◌, ◌<◌, ℕ, Some, IsTrue};
+ghost use Rattle.std.specs.Prelude.{◌≡◌, ◌↔◌, ◌<◌, Some, IsTrue};
 ghost use Rattle.and_policy.specs.declared.decision.Way as ways;
 ghost use Rattle.and_events.specs.declared.event.Event.TheVariants as events;
 ghost use Rattle.and_events.specs.declared.plan.Step as plan_steps;
-ghost use Rattle.and_events.specs.declared.plan.Step.TheVariants as kinds;
-ghost use Rattle.and_events.specs.declared.plan.What as whats;
-ghost use Rattle.and_events.specs.declared.event.Node as nodes;
-ghost use Rattle.and_policy.specs.declared.entry.Entry as entries;
+ghost use Rattle.and_plain.specs.Doing as doing;
 ghost use Rattle.and_events.specs.Legal as spec;
 ghost use Rattle.and_events.specs.Places as places;
 ghost use Rattle.and_events.specs.State as states;
@@ -67,13 +64,59 @@ pub(crate) fn legal_step(plan: &Plan, s: &State, number: u32) -> Option<Step>
     None
 }
 
-// Whether the step injects this packet.
-fn injects(step: Option<Step>, packet: u32) -> bool
-    ensures { IsTrue result ↔ (step ≡ Some (kinds.Inject packet)) }
+// Whether the step is one that the event does.
+fn is_done_by(step: Option<Step>, event: &Event) -> bool
+    ensures { IsTrue result ↔ doing.IsDoneBy step event.now }
 {
-    match step {
-        Some(Step::Inject { packet: given }) => given == packet,
-        _ => false,
+    let Some(step) = step else {
+        return false;
+    };
+    match *event {
+        Event::Append { .. } => match step {
+            Step::Append(_) => true,
+            _ => false,
+        },
+        Event::Review { .. } => match step {
+            Step::Review => true,
+            _ => false,
+        },
+        Event::Hold { .. } => match step {
+            Step::Hold { .. } => true,
+            _ => false,
+        },
+        Event::Free { .. } => match step {
+            Step::Free { .. } => true,
+            _ => false,
+        },
+        Event::Wait { .. } => match step {
+            Step::Wait => true,
+            _ => false,
+        },
+        Event::Inject { packet, .. } => match step {
+            Step::Inject { packet: given } => given == packet,
+            _ => false,
+        },
+        Event::Blackout { .. } => match step {
+            Step::Blackout { .. } => true,
+            _ => false,
+        },
+        Event::Resume { .. } => match step {
+            Step::Resume { .. } => true,
+            _ => false,
+        },
+        Event::Finish { .. } => match step {
+            Step::Finish => true,
+            _ => false,
+        },
+        Event::Announce { .. }
+        | Event::Installed { .. }
+        | Event::Take { .. }
+        | Event::Egress { .. }
+        | Event::Sealed { .. }
+        | Event::Route { .. }
+        | Event::Redirect { .. }
+        | Event::Ingress { .. }
+        | Event::Unpin { .. } => false,
     }
 }
 
@@ -98,15 +141,6 @@ fn enters(plan: &Plan, s: &State, packet: u32, full: bool) -> bool
         queue_place(&plan.settings, host, Queue::Out),
         inject_end(full),
     )
-}
-
-// Whether a packet may be injected, and ends so.
-fn can_inject(plan: &Plan, s: &State, step: u32, packet: u32, full: bool) -> bool
-    ensures { IsTrue result ↔ spec.Legal plan.now s.now (events.Inject step packet full) }
-{
-    let is_due = injects(legal_step(plan, s, step), packet);
-    let ends = enters(plan, s, packet, full);
-    both(is_due, ends)
 }
 
 // Whether the actor may send the packet that it has sealed, and that ends so.
@@ -192,142 +226,6 @@ fn can_arrive(plan: &Plan, s: &State, actor: Actor, packet: u32, at: u32, arriva
         && arrives(plan, s, host, packet, said, arrival)
 }
 
-// Whether the step appends an entry.
-fn is_append(step: Option<Step>) -> bool
-    ensures { IsTrue result ↔ ((e : entries.Entry) × (step ≡ Some (kinds.Append e))) }
-{
-    match step {
-        Some(Step::Append(_)) => true,
-        _ => false,
-    }
-}
-
-// Whether the step is a review.
-fn is_review(step: Option<Step>) -> bool
-    ensures { IsTrue result ↔ (step ≡ Some kinds.Review) }
-{
-    match step {
-        Some(Step::Review) => true,
-        _ => false,
-    }
-}
-
-// Whether the step holds something.
-fn is_hold(step: Option<Step>) -> bool
-    ensures { IsTrue result ↔ ((node : nodes.Node) × (what : whats.What) × (step ≡ Some (kinds.Hold node what))) }
-{
-    match step {
-        Some(Step::Hold { .. }) => true,
-        _ => false,
-    }
-}
-
-// Whether the step no longer holds something.
-fn is_free(step: Option<Step>) -> bool
-    ensures { IsTrue result ↔ ((node : nodes.Node) × (what : whats.What) × (step ≡ Some (kinds.Free node what))) }
-{
-    match step {
-        Some(Step::Free { .. }) => true,
-        _ => false,
-    }
-}
-
-// Whether the step waits.
-fn is_wait(step: Option<Step>) -> bool
-    ensures { IsTrue result ↔ (step ≡ Some kinds.Wait) }
-{
-    match step {
-        Some(Step::Wait) => true,
-        _ => false,
-    }
-}
-
-// Whether the step pauses a VM.
-fn is_blackout(step: Option<Step>) -> bool
-    ensures { IsTrue result ↔ ((vm host : ℕ) × (step ≡ Some (kinds.Blackout vm host))) }
-{
-    match step {
-        Some(Step::Blackout { .. }) => true,
-        _ => false,
-    }
-}
-
-// Whether the step resumes a VM.
-fn is_resume(step: Option<Step>) -> bool
-    ensures { IsTrue result ↔ ((vm : ℕ) × (step ≡ Some (kinds.Resume vm))) }
-{
-    match step {
-        Some(Step::Resume { .. }) => true,
-        _ => false,
-    }
-}
-
-// Whether the step ends the run.
-fn is_finish(step: Option<Step>) -> bool
-    ensures { IsTrue result ↔ (step ≡ Some kinds.Finish) }
-{
-    match step {
-        Some(Step::Finish) => true,
-        _ => false,
-    }
-}
-
-#[tactic(auto, unfolding(and_events::specs::Legal::Legal))]
-fn can_append(plan: &Plan, s: &State, step: u32) -> bool
-    ensures { IsTrue result ↔ spec.Legal plan.now s.now (events.Append step) }
-{
-    is_append(legal_step(plan, s, step))
-}
-
-#[tactic(auto, unfolding(and_events::specs::Legal::Legal))]
-fn can_review(plan: &Plan, s: &State, step: u32) -> bool
-    ensures { IsTrue result ↔ spec.Legal plan.now s.now (events.Review step) }
-{
-    is_review(legal_step(plan, s, step))
-}
-
-#[tactic(auto, unfolding(and_events::specs::Legal::Legal))]
-fn can_hold(plan: &Plan, s: &State, step: u32) -> bool
-    ensures { IsTrue result ↔ spec.Legal plan.now s.now (events.Hold step) }
-{
-    is_hold(legal_step(plan, s, step))
-}
-
-#[tactic(auto, unfolding(and_events::specs::Legal::Legal))]
-fn can_free(plan: &Plan, s: &State, step: u32) -> bool
-    ensures { IsTrue result ↔ spec.Legal plan.now s.now (events.Free step) }
-{
-    is_free(legal_step(plan, s, step))
-}
-
-#[tactic(auto, unfolding(and_events::specs::Legal::Legal))]
-fn can_wait(plan: &Plan, s: &State, step: u32) -> bool
-    ensures { IsTrue result ↔ spec.Legal plan.now s.now (events.Wait step) }
-{
-    is_wait(legal_step(plan, s, step))
-}
-
-#[tactic(auto, unfolding(and_events::specs::Legal::Legal))]
-fn can_blackout(plan: &Plan, s: &State, step: u32) -> bool
-    ensures { IsTrue result ↔ spec.Legal plan.now s.now (events.Blackout step) }
-{
-    is_blackout(legal_step(plan, s, step))
-}
-
-#[tactic(auto, unfolding(and_events::specs::Legal::Legal))]
-fn can_resume(plan: &Plan, s: &State, step: u32) -> bool
-    ensures { IsTrue result ↔ spec.Legal plan.now s.now (events.Resume step) }
-{
-    is_resume(legal_step(plan, s, step))
-}
-
-#[tactic(auto, unfolding(and_events::specs::Legal::Legal))]
-fn can_finish(plan: &Plan, s: &State, step: u32) -> bool
-    ensures { IsTrue result ↔ spec.Legal plan.now s.now (events.Finish step) }
-{
-    is_finish(legal_step(plan, s, step))
-}
-
 /// Whether the event may happen in the state.
 #[tactic(auto, unfolding(and_events::specs::Legal::Legal))]
 pub fn is_legal(plan: &Plan, s: &State, event: &Event) -> bool
@@ -335,15 +233,18 @@ pub fn is_legal(plan: &Plan, s: &State, event: &Event) -> bool
     ensures { IsTrue result ↔ spec.Legal plan.now s.now event.now }
 {
     match *event {
-        Event::Append { step } => can_append(plan, s, step),
-        Event::Review { step } => can_review(plan, s, step),
-        Event::Hold { step } => can_hold(plan, s, step),
-        Event::Free { step } => can_free(plan, s, step),
-        Event::Wait { step } => can_wait(plan, s, step),
-        Event::Inject { step, packet, full } => can_inject(plan, s, step, packet, full),
-        Event::Blackout { step } => can_blackout(plan, s, step),
-        Event::Resume { step } => can_resume(plan, s, step),
-        Event::Finish { step } => can_finish(plan, s, step),
+        Event::Append { step } => is_done_by(legal_step(plan, s, step), event),
+        Event::Review { step } => is_done_by(legal_step(plan, s, step), event),
+        Event::Hold { step } => is_done_by(legal_step(plan, s, step), event),
+        Event::Free { step } => is_done_by(legal_step(plan, s, step), event),
+        Event::Wait { step } => is_done_by(legal_step(plan, s, step), event),
+        Event::Blackout { step } => is_done_by(legal_step(plan, s, step), event),
+        Event::Resume { step } => is_done_by(legal_step(plan, s, step), event),
+        Event::Finish { step } => is_done_by(legal_step(plan, s, step), event),
+        Event::Inject { step, packet, full } => {
+            let is_due = is_done_by(legal_step(plan, s, step), event);
+            both(is_due, enters(plan, s, packet, full))
+        }
         Event::Announce { node, upto } => {
             can_announce(plan, s, node) && upto as usize == programme_of(plan, s, node).len()
         }

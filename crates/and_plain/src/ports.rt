@@ -1,5 +1,5 @@
 //! The ports of the VMs.
-ghost use Rattle.std.specs.Prelude.{◌≡◌, ◌↔◌, List, [], OnOk, IsTrue, slice_index_or, position};
+ghost use Rattle.std.specs.Prelude.{◌≡◌, List, OnOk, position};
 ghost use Rattle.and_events.specs.Ports as spec;
 ghost use Rattle.and_events.specs.Ports.{ports_after};
 

@@ -1,7 +1,6 @@
 //! When the system has come to rest, when a run is over, and which hairpins may be taken away.
 ghost use Rattle.std.specs.Prelude.{◌≡◌, ◌↔◌, ◌<◌, ℕ, [], None, IsTrue, length};
 ghost use Rattle.std.specs.List.{All};
-ghost use Rattle.and_policy.specs.declared.port.Port as port_type;
 ghost use Rattle.and_events.specs.Legal as spec;
 ghost use Rattle.and_events.specs.Ports as ports;
 

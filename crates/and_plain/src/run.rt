@@ -1,5 +1,5 @@
 //! Which lists of events are runs.
-ghost use Rattle.std.specs.Prelude.{◌≡◌, ◌<◌, IfOk, MatchOption};
+ghost use Rattle.std.specs.Prelude.{◌<◌, IfOk, MatchOption};
 ghost use Rattle.and_events.specs.Run.{Run};
 ghost use Rattle.and_plain.specs.History.{history, IsFirstIllegal};
 

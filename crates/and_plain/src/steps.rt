@@ -1,6 +1,5 @@
 //! What each event does to the state.
 ghost use Rattle.std.specs.Prelude.{◌≡◌, ◌+◌, OnOk, Some, slice_get};
-ghost use Rattle.and_events.specs.declared.event.Event.TheVariants as events;
 ghost use Rattle.and_events.specs.Programming.{programmes_after};
 ghost use Rattle.and_events.specs.declared.plan.Step.TheVariants as plan_steps;
 ghost use Rattle.and_events.specs.Flow as flows;
@@ -8,20 +7,19 @@ ghost use Rattle.and_events.specs.Flow.{flow_after};
 ghost use Rattle.and_events.specs.Ports.{ports_after};
 ghost use Rattle.and_events.specs.State as spec;
 
-use crate::facts::{dest_endpoint, dest_net, frame_len, node_at, source_net, tuple_at};
-use crate::flow::{Flow, carried_in, enter_by, grab, seal_by, send_by, stop};
+use crate::facts::{dest_endpoint, dest_net, node_at};
+use crate::flow::{Flow, carried_in, seal_by, send_by, stop};
 use crate::log::place;
-use crate::places::{hand_place, node_of, node_place, queue_place};
-use crate::ports::{arrive, boot, comes_to, halt, leaves_host, pause, unpinned};
-use crate::programmes::{announces, installs, logs};
+use crate::places::{node_place, queue_place};
+use crate::ports::{arrive, boot, comes_to, halt, leaves_host, pause};
+use crate::programmes::logs;
 use crate::rows::{row_at, set_at};
-use crate::state::{State, home, installed_of};
-use crate::usage::{give_orders, with_use};
+use crate::state::State;
+use crate::usage::give_orders;
 use and_events::{
-    Actor, Arrival, Departure, End, Endpoint, Event, Held, Node, Passage, Plan, Queue, Return,
-    Settings, Step, What,
+    Arrival, Departure, End, Endpoint, Node, Passage, Plan, Queue, Return, Settings, Step, What,
 };
-use and_policy::{Entry, NoMemory, UsageKey};
+use and_policy::{Entry, NoMemory};
 use std::alloc::Global;
 
 // ---- packets

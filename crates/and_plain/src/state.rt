@@ -11,7 +11,7 @@ use crate::ports::port_at;
 use crate::programmes::Programmes;
 use crate::rows::{at_or, filled, make_rows, row_at};
 use crate::usage::Used;
-use and_events::{Carried, Endpoint, Held, Items, Node, Plan};
+use and_events::{Carried, Endpoint, Items, Node, Plan};
 use and_policy::{NoMemory, Op, Port};
 use std::alloc::Global;
 use std::marker::Model;
@@ -63,13 +63,6 @@ impl State {
         ensures { result.now ≡ self.now.flow.queues }
     {
         &self.flow.queues
-    }
-
-    /// What each actor has in hand, by the hand's place.
-    pub fn hands(&self) -> &[Option<Held>]
-        ensures { result.now ≡ self.now.flow.hands }
-    {
-        &self.flow.hands
     }
 
     /// The port of the VM at the host.

@@ -2,8 +2,8 @@
 //!
 //! Each function computes a definition, slowly and exactly. Most do so over a list of events, the oldest of which is first:
 //! a packet's fates, whether its decisions are fresh, whether each of its fates has its reason, whether the list is complete,
-//! and whether at each event the first of the enabled actors acted. [`places`] counts the places of a packet in a state. It
-//! stands on the definitions of `and_events` and on the states of `and_plain`.
+//! and whether at each event the first of the enabled actors acted. It stands on the definitions of `and_events` and on the
+//! states of `and_plain`. The program `rows` judges the traces of all rows by it.
 #![tactic(auto)]
 
 mod all;
@@ -17,7 +17,6 @@ mod just;
 mod led;
 mod loss;
 mod order;
-mod placed;
 mod reasons;
 mod said;
 mod sent;
@@ -29,8 +28,4 @@ pub use fresh::is_fresh;
 pub use just::is_just;
 pub use led::led_to;
 pub use order::is_in_plain_order;
-pub use placed::places;
 pub use sent::sends;
-
-#[cfg(test)]
-mod tests;

@@ -1,5 +1,5 @@
 //! The plain order of one thread.
-ghost use Rattle.std.specs.Prelude.{◌≡◌, ◌↔◌, IsTrue, IfOk};
+ghost use Rattle.std.specs.Prelude.{◌↔◌, IsTrue, IfOk};
 ghost use Rattle.and_events.specs.Fresh.{decision_of};
 ghost use Rattle.and_events.specs.Legal.{Enabled};
 ghost use Rattle.and_events.specs.Ordered as spec;

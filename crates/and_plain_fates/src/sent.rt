@@ -1,5 +1,5 @@
 //! How often a packet was sent.
-ghost use Rattle.std.specs.Prelude.{◌≡◌, ◌+◌, ℕ, Bool, cond, IfOk};
+ghost use Rattle.std.specs.Prelude.{◌≡◌, ◌+◌, ℕ, cond, IfOk};
 ghost use Rattle.and_events.specs.Flow as flows;
 ghost use Rattle.and_events.specs.Run as spec;
 ghost use Rattle.and_events.specs.State as states;

@@ -7,3 +7,5 @@ pub mod OrderLemmas
 pub mod VmLemmas
 pub mod Adding
 pub mod Ended
+pub mod Framed
+pub mod WholeRuns

@@ -19,11 +19,9 @@ mod orders;
 mod report;
 mod rows;
 mod skips;
-#[cfg(test)]
-mod tests;
 mod totals;
 mod vm_nets;
 mod vms;
 
-pub use laws::fates_are_counted_once;
+pub use laws::{fates_are_counted_once, frames_add_up, packets_add_up};
 pub use report::report_text;

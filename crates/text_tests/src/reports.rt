@@ -1,11 +1,12 @@
-//! The reports of lists of events that were counted by hand, byte for byte.
-use crate::report_text;
+//! The report of a list of events with every kind of fate, counted by hand, byte for byte.
+
 use and_capture::{Bytes, Taken};
 use and_events::{
-    Actor, Arrival, Departure, End, Event, ItemFault, Items, Line, Node, Packet, Passage, Plan,
-    Queue, Return, Settings, SkipReason, Step,
+    Actor, Arrival, Departure, End, Event, ItemFault, Items, Line, Packet, Passage, Plan, Return,
+    Settings, SkipReason, Step,
 };
-use and_policy::{Dest, Entry, EntryFault, Name, Prefix, Rule, Side, Skip, Tuple, Way};
+use and_policy::{Dest, Entry, EntryFault, Name, Skip, Tuple, Way};
+use and_report::report_text;
 use std::alloc::Global;
 use std::process::Abort;
 use std::test::Fail;
@@ -17,25 +18,6 @@ const WORKER_1: Actor = Actor::Worker { host: 1, index: 0 };
 const C0: Actor = Actor::Coproc(0);
 
 const G: Actor = Actor::Gateway(0);
-
-const H0: Node = Node::Host(0);
-
-const H1: Node = Node::Host(1);
-
-const G0: Node = Node::Gate(0);
-
-// An installer announces, and has installed.
-macro_rules! announce {
-    ($node:expr, $upto:expr) => {
-        Event::Announce { node: $node, upto: $upto }
-    };
-}
-
-macro_rules! installed {
-    ($node:expr, $upto:expr) => {
-        Event::Installed { node: $node, upto: $upto }
-    };
-}
 
 // A packet leaves a VM of host 0.
 macro_rules! egress {
@@ -124,47 +106,6 @@ const SETTINGS: Settings = Settings {
     life: 3,
 };
 
-const ANY: Prefix = Prefix {
-    address: 0,
-    length: 0,
-};
-
-/// Passes TCP port 80.
-const HTTP: Rule = Rule {
-    number: 1,
-    priority: 100,
-    side: Side::Ingress,
-    allow: true,
-    sealed: false,
-    protocol: Some(6),
-    source: ANY,
-    destination: ANY,
-    source_low: 0,
-    source_high: 65535,
-    destination_low: 80,
-    destination_high: 80,
-};
-
-/// Network 7 with VM 0 at host 0 and VM 1 at host 1.
-const LOG: [Entry; 4] = [
-    Entry::AddNet { net: 7 },
-    Entry::AddVm {
-        vm: 0,
-        net: 7,
-        mac: 0x0200_0000_0001,
-        ip: 0x0a00_0001,
-        host: 0,
-    },
-    Entry::AddVm {
-        vm: 1,
-        net: 7,
-        mac: 0x0200_0000_0002,
-        ip: 0x0a00_0002,
-        host: 1,
-    },
-    Entry::AddRule { net: 7, rule: HTTP },
-];
-
 /// VM 0 in network 7 at host 0, VM 1 in network 9 at host 1.
 const TWO_NETS: [Entry; 4] = [
     Entry::AddNet { net: 7 },
@@ -218,14 +159,11 @@ fn packets(alloc: Global, vms: &[u32]) -> Result<Items<Packet>, Fail> {
     Ok(all)
 }
 
-/// The entries, each appended by a step, and these steps.
-fn steps(alloc: Global, log: &[Entry], more: &[Step]) -> Result<Items<Step>, Fail> {
+/// The entries, each appended by a step.
+fn steps(alloc: Global, log: &[Entry]) -> Result<Items<Step>, Fail> {
     let mut steps = Items::new(alloc);
     for entry in log {
         steps.push(Step::Append(*entry))?;
-    }
-    for step in more {
-        steps.push(*step)?;
     }
     Ok(steps)
 }
@@ -249,8 +187,8 @@ fn names(alloc: Global) -> Result<Items<Bytes>, Fail> {
 }
 
 /// A plan over the entries, with a packet from each of these VMs. Nothing is refused or skipped, and no frame is counted.
-fn plan(alloc: Global, log: &[Entry], more: &[Step], vms: &[u32]) -> Result<Plan, Fail> {
-    let steps = steps(alloc, log, more)?;
+fn plan(alloc: Global, log: &[Entry], vms: &[u32]) -> Result<Plan, Fail> {
+    let steps = steps(alloc, log)?;
     let log = entries(alloc, log)?;
     let packets = packets(alloc, vms)?;
     let names = names(alloc)?;
@@ -292,139 +230,6 @@ fn check(
     let report = report_text(alloc, plan, &lines)?;
     assert!(rt; report.as_slice() == text.as_bytes());
     Ok(())
-}
-
-const SEND_ONE: [Step; 3] = [Step::Wait, Step::Inject { packet: 0 }, Step::Finish];
-
-/// A whole run of two hosts: a packet goes from host 0 over the gateway to host 1.
-const WHOLE_PATH: [Event; 37] = [
-    Event::Append { step: 0 },
-    announce!(H0, 1),
-    installed!(H0, 1),
-    announce!(H1, 1),
-    installed!(H1, 1),
-    announce!(G0, 1),
-    installed!(G0, 1),
-    Event::Append { step: 1 },
-    announce!(H0, 2),
-    installed!(H0, 2),
-    announce!(H1, 2),
-    installed!(H1, 2),
-    announce!(G0, 2),
-    installed!(G0, 2),
-    Event::Append { step: 2 },
-    announce!(H0, 3),
-    installed!(H0, 3),
-    announce!(H1, 3),
-    installed!(H1, 3),
-    announce!(G0, 3),
-    installed!(G0, 3),
-    Event::Append { step: 3 },
-    announce!(H0, 4),
-    installed!(H0, 4),
-    announce!(H1, 4),
-    installed!(H1, 4),
-    announce!(G0, 4),
-    installed!(G0, 4),
-    Event::Wait { step: 4 },
-    Event::Inject {
-        step: 5,
-        packet: 0,
-        full: false,
-    },
-    Event::Take {
-        actor: WORKER_0,
-        queue: Queue::Out,
-        packet: 0,
-    },
-    egress!(0, Way::Slow, LEAVES),
-    Event::Take {
-        actor: G,
-        queue: Queue::Wire,
-        packet: 0,
-    },
-    route!(0, onward!(7)),
-    Event::Take {
-        actor: WORKER_1,
-        queue: Queue::Wire,
-        packet: 0,
-    },
-    ingress!(WORKER_1, 0, Way::Slow, running!(1, Name::Rule(1), true)),
-    Event::Finish { step: 6 },
-];
-
-const WHOLE_PATH_TEXT: &str = "andromeda report 1
-frames 1
-skipped 0
-unsent 0
-injected 1
-delivered 1
-dropped 0
-lost blackout 0
-lost queue 0
-lost hops 0
-sends 2
-offload 0
-hover 1
-hairpin 0
-redirect 0
-fast 0
-slow 2
-orders 0
-refused 0
-vm a sent 1 received 0
-vm b sent 0 received 1
-";
-
-#[test]
-fn one_packet(rt: HostRuntime) -> Result<(), Fail> {
-    let mut plan = plan(rt.alloc(), &LOG, &SEND_ONE, &[0])?;
-    plan.frames = 1;
-    check(&rt, rt.alloc(), &plan, &WHOLE_PATH, WHOLE_PATH_TEXT)
-}
-
-const REVIEW: [Step; 1] = [Step::Review];
-
-/// Two packets of 54 bytes leave for one destination; the review orders an offload for it.
-const REVIEWED: [Event; 7] = [
-    Event::Append { step: 0 },
-    Event::Append { step: 1 },
-    Event::Append { step: 2 },
-    Event::Append { step: 3 },
-    egress!(0, Way::Slow, LEAVES),
-    egress!(1, Way::Fast, LEAVES),
-    Event::Review { step: 4 },
-];
-
-const REVIEWED_TEXT: &str = "andromeda report 1
-frames 2
-skipped 0
-unsent 0
-injected 2
-delivered 0
-dropped 0
-lost blackout 0
-lost queue 0
-lost hops 0
-sends 2
-offload 0
-hover 2
-hairpin 0
-redirect 0
-fast 1
-slow 1
-orders 1
-refused 0
-vm a sent 2 received 0
-vm b sent 0 received 0
-";
-
-#[test]
-fn reviewed(rt: HostRuntime) -> Result<(), Fail> {
-    let mut plan = plan(rt.alloc(), &LOG, &REVIEW, &[0, 0])?;
-    plan.frames = 2;
-    plan.settings.threshold = 108;
-    check(&rt, rt.alloc(), &plan, &REVIEWED, REVIEWED_TEXT)
 }
 
 /// From VM 0 in network 7 and VM 1 in network 9, one packet for each fate or more.
@@ -543,7 +348,7 @@ vm b sent 6 received 1
 
 #[test]
 fn all_fates(rt: HostRuntime) -> Result<(), Fail> {
-    let mut plan = plan(rt.alloc(), &TWO_NETS, &[], &SENDERS)?;
+    let mut plan = plan(rt.alloc(), &TWO_NETS, &SENDERS)?;
     plan.frames = 27;
     plan.unsent = 2;
     plan.skipped.push((3, SkipReason::Frame(Skip::TooLong)))?;

@@ -10,6 +10,7 @@ use Rattle.and_policy.specs.declared.entry.Op.TheVariants as ops
 use Rattle.and_policy.specs.Programmes.{entries, prefix}
 use Rattle.and_events.specs.Programming.{Programmes, Given, Word, Quiet, Logs, Orders, Announces, Installs, programme_at, installed_at, with_orders, programmes_after, entries_installed, HasInstalled}
 use Rattle.and_events.specs.Legal.{adds, added_at}
+use Rattle.and_laws.proofs.Needed.{Raises}
 use Rattle.and_laws.proofs.Rows.{set_at}
 
 -- ---- what a node has installed stays installed
@@ -67,12 +68,7 @@ longer (g ∷ os) programmes n =
 still_installed : (xs ys : List Op) (k : ℕ) → k ≤ length xs → length (prefix (xs ++ ys) k) ≡ length (prefix xs k)
 still_installed xs ys k l = ap (λ zs. length (entries zs)) (take-append-le k xs ys l)
 
--- what a word may say of a node
-abbrev pub SaysMore : Programmes → ℕ → Word → Type 0
-SaysMore p n (Installs m upto) = m ≡ n → installed_at p n ≤ upto
-SaysMore p n _ = Unit {0}
-
-pub knows_after : (p : Programmes) (w : Word) (n vm : ℕ) → n < length p.ops → installed_at p n ≤ length (programme_at p n) → SaysMore p n w → KnowsIn p n vm → KnowsIn (programmes_after p w) n vm
+pub knows_after : (p : Programmes) (w : Word) (n vm : ℕ) → n < length p.ops → installed_at p n ≤ length (programme_at p n) → Raises p w → KnowsIn p n vm → KnowsIn (programmes_after p w) n vm
 unfolding programmes_after
 knows_after p Quiet n vm there short more k = k
 knows_after p (Logs e) n vm there short more (q, is, has) =
@@ -89,5 +85,5 @@ knows_after p (Announces m upto) n vm there short more k = k
 knows_after p (Installs m upto) n vm there short more (q, is, has) =
     let at_least : entries_installed p n ≤ length (prefix (programme_at p n) (get_or (set p.installed m upto) n 0)) =
     set_at p.installed m n upto 0 (λ x. entries_installed p n ≤ length (prefix (programme_at p n) x)) (omega arith)
-    (λ e. more_entries (programme_at p n) (installed_at p n) upto (more e)) in
+    (λ e. more_entries (programme_at p n) (installed_at p n) upto (omega (arith, more, ap (installed_at p) e))) in
     (q, is, omega (arith, has, at_least))

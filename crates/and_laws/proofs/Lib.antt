@@ -52,4 +52,6 @@ pub mod Deciding
 pub mod Choosing
 pub mod OneEvent
 pub mod SameRuns
+pub mod Having
+pub mod Needed
 pub mod Counted

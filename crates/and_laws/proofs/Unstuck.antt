@@ -1,5 +1,5 @@
 -- No run of a sound plan is stuck before its end.
-use Rattle.std.proofs.Common.{◌≡◌, ◌≢◌, ℕ, zero, suc, ◌<◌, ◌≤◌, Bool, true, false, List, [], ◌∷◌, length, get_or, refl, sym, ap, ◌∙◌, subst, arith, Option, Some, None, ⊎_elim, inl, inr, ◌⊎◌}
+use Rattle.std.proofs.Common.{◌≡◌, ◌≢◌, ℕ, zero, suc, ◌<◌, ◌≤◌, Bool, true, false, List, [], ◌∷◌, length, get_or, refl, sym, ap, ◌∙◌, subst, arith, Some, None, ⊎_elim, inl, inr, ◌⊎◌}
 use Rattle.std.specs.Prelude.{slice_get, unwrap_or, ◌==◌}
 use Rattle.std.specs.List.{AllByRecursion, list_any}
 use Rattle.std.proofs.lemmas.List.{take_all}
@@ -13,7 +13,7 @@ use Rattle.and_policy.specs.Owners.{place}
 use Rattle.and_policy.specs.Programmes.{entries, prefix}
 use Rattle.and_events.specs.declared.event.Actor.TheVariants.{Controller, Driver}
 use Rattle.and_events.specs.declared.event.Event.{Event}
-use Rattle.and_events.specs.declared.event.Event.TheVariants.{Append, Review, Resume, Hold, Free, Installed}
+use Rattle.and_events.specs.declared.event.Event.TheVariants.{Hold, Free}
 use Rattle.and_events.specs.declared.event.Node.{Node}
 use Rattle.and_events.specs.declared.event.Node.TheVariants.{Host}
 use Rattle.and_events.specs.declared.plan.What.{What}
@@ -25,7 +25,7 @@ use Rattle.and_events.specs.Places.{node_count, node_place, IsNode}
 use Rattle.and_events.specs.Ports.{ports_of, port_at, ports_after, IsHairpin}
 use Rattle.and_events.specs.Programming.{programme_at, installed_at, entries_installed}
 use Rattle.and_events.specs.Script.{is_hold, is_moving}
-use Rattle.and_events.specs.State.{State, NodeHolds, state, start, after, holds_after, holds_by, with_hold, ports_move_of, word_of, word_of_step, packet_at, no_packet, home, programme_of, installed_of}
+use Rattle.and_events.specs.State.{NodeHolds, state, start, after, holds_after, holds_by, with_hold, ports_move_of, word_of, packet_at, no_packet, home, programme_of, installed_of}
 use Rattle.and_events.specs.Legal.{Legal, IsAtRest, IsOver, CanStep, CanHold, KnowsVm, install_held, forward_held}
 use Rattle.and_events.specs.Run.{Run}
 use Rattle.and_events.specs.Sound.{IsSound, IsBuilt, IsBuiltStep}
@@ -37,7 +37,8 @@ use Rattle.and_laws.proofs.Following.{follows}
 use Rattle.and_laws.proofs.GoingOn.{AreFree, over_or, rest_or, knows_all, number_of, find_live, home_of}
 use Rattle.and_laws.proofs.Hairpins.{hairpin_pins, pin_within, row_within}
 use Rattle.and_laws.proofs.Holding.{hold_of, holding}
-use Rattle.and_laws.proofs.Knowing.{SaysMore, knows_after}
+use Rattle.and_laws.proofs.Knowing.{knows_after}
+use Rattle.and_laws.proofs.Needed.{raises}
 use Rattle.and_laws.proofs.Moving.{target_none}
 use Rattle.and_laws.proofs.PortFits.{fits_as}
 use Rattle.and_laws.proofs.Programmed.{programmed}
@@ -107,22 +108,6 @@ was_held plan (Free n) h r k held =
         set_at s.node_holds.install (node_place plan.settings node) k false false (λ b. b ≡ true → get_or s.node_holds.install k false ≡ true) (λ f. f) (λ is f. absurd (cc)) e
 was_held plan e h r k held = inl held
 
--- an install goes on from what is installed
-says_step : (plan : Plan) (s : State) (n : ℕ) (o : Option Step) → SaysMore s.programmes n (word_of_step plan s o)
-says_step plan s n (Some (steps.Append e)) = tt
-says_step plan s n (Some steps.Review) = tt
-says_step plan s n (Some (steps.Resume vm)) = tt
-says_step plan s n (Some step) = tt
-says_step plan s n None = tt
-
-says : (plan : Plan) (s : State) (e : Event) (n : ℕ) → Legal plan s e → SaysMore s.programmes n (word_of plan s e)
-unfolding Legal word_of
-says plan s (Append m) n l = says_step plan s n (slice_get plan.steps m)
-says plan s (Review m) n l = says_step plan s n (slice_get plan.steps m)
-says plan s (Resume m) n l = says_step plan s n (slice_get plan.steps m)
-says plan s (Installed node upto) n l = λ is. omega (arith, l.0.1, l.1, ap (λ k. installed_at s.programmes k) is)
-says plan s e n l = tt
-
 -- all log entries are installed where all is
 all_entries : (plan : Plan) (h : List Event) → Run plan h → (node : Node) → IsNode plan.settings node → installed_of plan (state plan h) node ≡ length (programme_of plan (state plan h) node)
     → entries_installed (state plan h).programmes (node_place plan.settings node) ≡ length (state plan h).programmes.log
@@ -131,7 +116,7 @@ all_entries plan h r node there installed =
     ap (λ n. length (prefix p n)) installed ∙ ap (λ xs. length (entries xs)) (take_all (length p) p (omega arith)) ∙ ap (length {A = Entry}) (programmed plan h r node there).log
 
 -- a hairpin is at a host of the plan, and its VM has a name
-pin_there : (plan : Plan) (h : List Event) (host vm : ℕ) → IsHairpin (port_at (state plan h).ports host vm) → (host < plan.settings.hosts) × (vm < length plan.names)
+pub pin_there : (plan : Plan) (h : List Event) (host vm : ℕ) → IsHairpin (port_at (state plan h).ports host vm) → (host < plan.settings.hosts) × (vm < length plan.names)
 pin_there plan h host vm is =
     let ports = (state plan h).ports in
     let some = hairpin_pins (port_at ports host vm) is in
@@ -166,7 +151,7 @@ knows_later plan e h r host vm there k =
     let p = programmed plan h r.0 (Host host) there in
     let short : installed_of plan s (Host host) ≤ length (programme_of plan s (Host host)) = omega (arith, p.installed, p.announced) in
     let within : host < length s.programmes.ops = omega (arith, there, (nodes plan h).ops) in
-    let now = knows_after s.programmes (word_of plan s e) host vm within short (says plan s e host r.1) (k.0, k.1, k.3) in
+    let now = knows_after s.programmes (word_of plan s e) host vm within short (raises plan s e r.1) (k.0, k.1, k.3) in
     (now.0, now.1, there, now.2)
 
 -- where its installs are held, a host knows each VM that has a port there

@@ -12,3 +12,4 @@ pub mod Stages
 pub mod Progress
 pub mod Decided
 pub mod Choices
+pub mod Having

@@ -46,7 +46,7 @@ mod programmes;
 mod progress;
 mod targets;
 
-pub use choices::{choices_tell_events, plain_runs_are_one};
+pub use choices::{choices_tell_events, enabled_actors_have_events, plain_runs_are_one};
 pub use ends::{all_done_at_the_end, one_fate_at_the_end};
 pub use fresh::decisions_are_fresh;
 pub use just::{fates_are_just, offloads_lead_right, places_follow_decisions};

@@ -31,6 +31,7 @@ use Rattle.and_laws.specs.Stages.{MayTake as MayTakeFrom}
 use Rattle.and_laws.proofs.Actors.{takes_worker, takes_gateway, hand_number}
 use Rattle.and_laws.proofs.Hands.{right_hands}
 use Rattle.and_laws.proofs.Losses.{held_is_known}
+use Rattle.and_laws.proofs.Needed.{needed_installed}
 use Rattle.and_laws.proofs.Programmed.{programmed}
 use Rattle.and_laws.proofs.Staged.{stages}
 use Rattle.and_book.specs.Settling.{MaySettleEgress, MaySettleIngress, MaySettleGateway, IsGateDecision, gate_number}
@@ -43,7 +44,7 @@ use Rattle.and_replay.specs.Indexes.{leaving_hover}
 use Rattle.and_replay.specs.Turns.{IsNext, Has, Adds}
 use Rattle.and_replay.specs.Slow.{IsSlow}
 use Rattle.and_replay.proofs.Adding.{added, log_kept, hands_by, LogsNothing}
-use Rattle.and_replay.proofs.Installs.{all_installed, needed_installed}
+use Rattle.and_replay.proofs.Installs.{all_installed}
 use Rattle.and_replay.proofs.PlainLog.{programme_is, whole_prefix, leaving_is}
 
 behind : (v : Settings) (a : Actor) → Takes a → node_count v ≤ actor_number v a

@@ -1,3 +1,4 @@
 pub mod Scenarios
 pub mod Plans
+pub mod Standing
 pub mod Planners

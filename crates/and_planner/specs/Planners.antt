@@ -1,29 +1,18 @@
 -- What the plan's program keeps, as the definition of the plan sees it.
-use Rattle.std.specs.Prelude.{Bool, true, false, ◌≡◌, ◌≤◌, ℕ, [], ◌∷◌, ◌++◌, length, ◌+◌, Option, Some, option_map, Result, Ok, Err}
+use Rattle.std.specs.Prelude.{◌≡◌, ◌≤◌, ℕ, [], ◌∷◌, ◌++◌, length, ◌+◌, Result, Ok, Err}
 use Rattle.and_capture.specs.declared.capture.Taken.{Taken}
 use Rattle.and_policy.specs.declared.packet.Tuple.{Tuple}
 use Rattle.and_policy.specs.declared.packet.Fields.{Fields}
-use Rattle.and_policy.specs.declared.entry.Entry.{Entry}
-use Rattle.and_policy.specs.declared.entry.Entry.TheVariants.{AddNet, AddVm, AddRule}
-use Rattle.and_policy.specs.Fitting.{fits}
-use Rattle.and_policy.specs.LogView.{LogView}
 use Rattle.and_policy.specs.Logs.{Vm}
-use Rattle.and_events.specs.declared.plan.ItemFault.{ItemFault}
-use Rattle.and_events.specs.declared.plan.ItemFault.TheVariants as faults
 use Rattle.and_events.specs.declared.plan.Step.TheVariants as steps
 use Rattle.and_events.specs.declared.plan.SkipReason.{SkipReason}
-use Rattle.and_events.specs.Script.{Script}
 use Rattle.and_events.specs.Planned.{Planning}
 use Rattle.and_planner.specs.declared.planner.Planner.{Planner}
-
--- no VM is on its way, and nothing is held
-abbrev pub script_of : Planner → Script
-script_of p = record { log = p.written.entries; moving = []; holds = [] }
 
 abbrev pub planning_of : Planner → Planning
 planning_of p =
     record {
-      script = script_of p;
+      script = p.state.script;
       frames = p.frames.items;
       frame = p.frame;
       steps = p.steps;
@@ -55,15 +44,4 @@ pub record KeepsOrder (old new : Planner) : Type 0 where
   pub frame : new.frame ≡ old.frame + 1
   pub frames : new.frames ≡ old.frames
   pub packets : length new.packets ≤ new.frame
-  pub written : new.written ≡ old.written
-
--- the fault of an item that is an entry of the kinds that the program takes so far, where nothing is held
-abbrev pub entry_fault : LogView → Entry → Option ItemFault
-entry_fault log entry = option_map (λ fault. faults.Entry fault) (fits (Some log.hosts) log.entries entry)
-
--- entries of the kinds that the system runs so far, each of which is one step
-abbrev pub is_first : Entry → Bool
-is_first (AddNet net) = true
-is_first (AddVm vm net mac ip host) = true
-is_first (AddRule net rule) = true
-is_first _ = false
+  pub state : new.state ≡ old.state

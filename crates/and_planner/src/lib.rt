@@ -8,10 +8,12 @@
 #![tactic(auto)]
 
 mod built;
+mod holds;
 mod laws;
 mod making;
+mod moves;
 mod planner;
-mod written;
+mod state;
 
 pub use built::is_built;
 pub use laws::{plans_are_built, plans_are_sound};

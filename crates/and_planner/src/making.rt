@@ -1,9 +1,8 @@
 //! The plan of a scenario and a capture.
 ghost use Rattle.std.specs.Prelude.{◌≡◌, ◌≤◌, length, IfOk};
-ghost use Rattle.std.specs.List.{AllPass};
 ghost use Rattle.and_events.specs.Planned.{planned, items_applied, nothing_planned};
 ghost use Rattle.and_events.specs.Sound.{IsSound, IsBuilt};
-ghost use Rattle.and_planner.specs.Scenarios.{is_built_item};
+ghost use Rattle.and_planner.specs.Scenarios.{IsBuiltScenario};
 ghost use Rattle.and_planner.specs.Planners.{planning_of};
 ghost use Rattle.and_planner.specs.Plans.{CanPlan};
 
@@ -16,17 +15,17 @@ use std::alloc::Global;
 /// Applies the items in order.
 fn apply_all(
     alloc: Global,
-    settings: &Settings,
+    settings: Settings,
     items: &[Item],
     frames: Vec<Taken>,
 ) -> Result<Planner, NoMemory>
-    requires built { AllPass is_built_item items.now }
     requires items { length items.now ≤ 65536 }
     requires frames { length frames.items ≤ 100000 }
-    ensures planning { IfOk result (λ p. planning_of p ≡ items_applied settings.now 0 items.now (nothing_planned frames.items)) }
+    ensures planning { IfOk result (λ p. planning_of p ≡ items_applied settings 0 items.now (nothing_planned frames.items)) }
+    ensures settings { IfOk result (λ p. p.state.settings ≡ settings) }
     ensures frames { IfOk result (λ p. length p.frames.items ≤ 100000) }
 {
-    let mut planner = Planner::make(alloc, settings.hosts, frames)?;
+    let mut planner = Planner::make(alloc, settings, frames)?;
     for (number, item) in items.iter().enumerate() {
         planner.apply(alloc, number as u32, item)?;
     }
@@ -46,17 +45,13 @@ fn made(alloc: Global, scenario: Scenario, capture: Capture) -> Result<Plan, NoM
     } = scenario;
     let frames = capture.frames.len() as u32;
     let nanos = capture.nanos;
-    let mut planner = apply_all(
-        alloc,
-        &settings,
-        items.as_slice(),
-        capture.frames.into_vec(),
-    )?;
+    let mut planner = apply_all(alloc, settings, items.as_slice(), capture.frames.into_vec())?;
+    planner.state.free_all(&mut planner.steps)?;
     planner.steps.push(Step::Finish)?;
     Ok(Plan {
         settings,
         steps: planner.steps,
-        log: planner.written.to_entries(alloc)?,
+        log: planner.state.to_log(alloc)?,
         packets: planner.packets,
         refused: planner.refused,
         skipped: planner.skipped,
@@ -67,13 +62,14 @@ fn made(alloc: Global, scenario: Scenario, capture: Capture) -> Result<Plan, NoM
     })
 }
 
-/// The plan of a scenario and a capture, which is sound, and what the program runs so far. Want of memory is the only error, and then
-/// nothing of the plan is left.
+/// The plan of a scenario and a capture, which is sound. Want of memory is the only error, and then nothing of the plan is left.
+///
+/// Where the system can run the scenario so far, it can run the plan.
 pub fn plan(alloc: Global, scenario: Scenario, capture: Capture) -> Result<Plan, NoMemory>
     requires { CanPlan scenario capture }
     ensures planned { IfOk result (λ p. p ≡ planned scenario capture) }
     ensures sound { IfOk result (λ p. IsSound p) }
-    ensures built { IfOk result (λ p. IsBuilt p) }
+    ensures built { IsBuiltScenario scenario → IfOk result (λ p. IsBuilt p) }
 {
     made(alloc, scenario, capture)
 }

@@ -1,12 +1,11 @@
 //! The work of a plan, frame by frame and item by item.
-ghost use Rattle.std.specs.Prelude.{◌≡◌, ◌+◌, ◌<◌, ◌≤◌, true, length, OnOk, IfOk};
+ghost use Rattle.std.specs.Prelude.{◌≡◌, ◌+◌, ◌++◌, ◌≤◌, ◌<◌, None, length, OnOk, IfOk};
 ghost use Rattle.and_policy.specs.Frames.{fields};
-ghost use Rattle.and_events.specs.Planned.{send_frame, send_frames, frames_of, sendable, nothing_planned, item_applied};
-ghost use Rattle.and_events.specs.Script.{item_fault};
-ghost use Rattle.and_planner.specs.Scenarios.{is_built_item};
-ghost use Rattle.and_planner.specs.Planners.{planning_of, script_of, sender_of, frame_planned, frame_skipped, KeepsOrder, entry_fault, is_first};
+ghost use Rattle.and_events.specs.Planned.{send_frame, send_frames, frames_of, sendable, nothing_planned, item_applied, item_steps, stepped};
+ghost use Rattle.and_events.specs.Script.{item_fault, script_after};
+ghost use Rattle.and_planner.specs.Planners.{planning_of, sender_of, frame_planned, frame_skipped, KeepsOrder};
 
-use crate::written::Written;
+use crate::state::ScriptState;
 use and_capture::Taken;
 use and_events::{Item, ItemFault, Items, Packet, Settings, SkipReason, Step};
 use and_policy::{Entry, NoMemory, Tuple};
@@ -17,8 +16,8 @@ use std::collections::VecDeque;
 /// What the items up to now gave.
 #[derive(Drop)]
 pub struct Planner {
-    /// The log that they give.
-    pub written: Written,
+    /// The plain state that they lead to.
+    pub state: ScriptState,
     /// The frames that are left.
     pub frames: VecDeque<Taken>,
     /// The number of the first of them.
@@ -33,13 +32,39 @@ pub struct Planner {
     pub skipped: Items<(u32, SkipReason)>,
 }
 
+/// Adds the step of an entry, and the review that follows a tick.
+fn add_entry(steps: &mut Items<Step>, entry: Entry) -> Result<(), NoMemory>
+    ensures { OnOk result (steps.new ≡ steps.old ++ item_steps (Item.Entry entry)) }
+{
+    steps.push(Step::Append(entry))?;
+    match entry {
+        Entry::Tick => steps.push(Step::Review),
+        _ => Ok(()),
+    }
+}
+
+/// Adds the steps of an item that fits, other than those of the frames that it sends.
+fn add_steps(steps: &mut Items<Step>, item: &Item) -> Result<(), NoMemory>
+    ensures { OnOk result (steps.new ≡ steps.old ++ item_steps item.now) }
+{
+    match *item {
+        Item::Entry(entry) => add_entry(steps, entry),
+        Item::Wait => steps.push(Step::Wait),
+        Item::Send { .. } => Ok(()),
+        Item::Blackout { vm, host } => steps.push(Step::Blackout { vm, host }),
+        Item::Resume { vm } => steps.push(Step::Resume { vm }),
+        Item::Hold { node, what } => steps.push(Step::Hold { node, what }),
+        Item::Free { node, what } => steps.push(Step::Free { node, what }),
+    }
+}
+
 impl Planner {
-    /// Nothing is planned, for a system with this many hosts.
-    pub fn make(alloc: Global, hosts: u32, frames: Vec<Taken>) -> Result<Planner, NoMemory>
-        ensures { IfOk result (λ p. (planning_of p ≡ nothing_planned frames.items) × (p.written.hosts ≡ hosts)) }
+    /// Nothing is planned, for a system with these settings.
+    pub fn make(alloc: Global, settings: Settings, frames: Vec<Taken>) -> Result<Planner, NoMemory>
+        ensures { IfOk result (λ p. (planning_of p ≡ nothing_planned frames.items) × (p.state.settings ≡ settings)) }
     {
         Ok(Planner {
-            written: Written::make(alloc, hosts)?,
+            state: ScriptState::make(alloc, settings)?,
             frames: VecDeque::from_vec(frames),
             frame: 0,
             steps: Items::new(alloc),
@@ -51,15 +76,15 @@ impl Planner {
 
     /// The number of a frame's source VM and the frame's tuple, or why it is skipped.
     fn sender(&self, frame: &[u8]) -> Result<(u32, Tuple), SkipReason>
-        ensures { result ≡ sender_of (sendable (script_of self.now) (fields frame.now)) }
+        ensures { result ≡ sender_of (sendable self.now.state.script (fields frame.now)) }
     {
         let fields = match read_frame(frame) {
             Ok(fields) => fields,
             Err(skip) => return Err(SkipReason::Frame(skip)),
         };
-        match self.written.source(fields.source_mac) {
-            Some(vm) => Ok((vm, fields.tuple)),
-            None => Err(SkipReason::NoSource),
+        match self.state.source(fields.source_mac) {
+            Ok(vm) => Ok((vm, fields.tuple)),
+            Err(reason) => Err(reason),
         }
     }
 
@@ -93,7 +118,7 @@ impl Planner {
     fn send(&mut self, taken: Taken) -> Result<(), NoMemory>
         requires frame { self.old.frame < 100000 }
         requires packets { length self.old.packets ≤ self.old.frame }
-        ensures planning { OnOk result (planning_of self.new ≡ frame_planned (planning_of self.old) taken (sender_of (sendable (script_of self.old) (fields taken.frame)))) }
+        ensures planning { OnOk result (planning_of self.new ≡ frame_planned (planning_of self.old) taken (sender_of (sendable self.old.state.script (fields taken.frame)))) }
         ensures keeps { OnOk result (KeepsOrder self.old self.new) }
     {
         match self.sender(taken.frame.as_bytes()) {
@@ -109,7 +134,7 @@ impl Planner {
         ensures planning { OnOk result (planning_of self.new ≡ send_frame (planning_of self.old)) }
         ensures frame { OnOk result (self.new.frame + length self.new.frames.items ≤ 100000) }
         ensures packets { OnOk result (length self.new.packets ≤ self.new.frame) }
-        ensures written { OnOk result (self.new.written ≡ self.old.written) }
+        ensures state { OnOk result (self.new.state ≡ self.old.state) }
     {
         match self.frames.pop_front() {
             Some(taken) => self.send(taken),
@@ -124,7 +149,7 @@ impl Planner {
         ensures planning { OnOk result (planning_of self.new ≡ send_frames count (planning_of self.old)) }
         ensures frame { OnOk result (self.new.frame + length self.new.frames.items ≤ 100000) }
         ensures packets { OnOk result (length self.new.packets ≤ self.new.frame) }
-        ensures written { OnOk result (self.new.written ≡ self.old.written) }
+        ensures state { OnOk result (self.new.state ≡ self.old.state) }
     {
         let mut left = count;
         while left > 0 {
@@ -141,46 +166,55 @@ impl Planner {
         ensures planning { OnOk result (planning_of self.new ≡ frames_of (planning_of self.old) (Item.Send wanted)) }
         ensures frame { OnOk result (self.new.frame + length self.new.frames.items ≤ 100000) }
         ensures packets { OnOk result (length self.new.packets ≤ self.new.frame) }
-        ensures written { OnOk result (self.new.written ≡ self.old.written) }
+        ensures state { OnOk result (self.new.state ≡ self.old.state) }
     {
         let left = self.frames.len() as u32;
         self.send_many(wanted.unwrap_or(left).min(left))
     }
 
-    /// Appends an entry, or refuses the item of this number.
-    fn write(&mut self, alloc: Global, number: u32, entry: Entry) -> Result<(), NoMemory>
-        requires { is_first entry ≡ true }
-        ensures planning { OnOk result (planning_of self.new ≡ item_applied number (planning_of self.old) (Item.Entry entry) (entry_fault self.old.written entry)) }
-        ensures hosts { OnOk result (self.new.written.hosts ≡ self.old.written.hosts) }
-        ensures frames { OnOk result (self.new.frames ≡ self.old.frames) }
-        ensures frame { OnOk result (self.new.frame ≡ self.old.frame) }
-        ensures packets { OnOk result (self.new.packets ≡ self.old.packets) }
+    /// Sends the frames that an item sends: none, where it is no send.
+    fn send_for(&mut self, item: &Item) -> Result<(), NoMemory>
+        requires frame { self.old.frame + length self.old.frames.items ≤ 100000 }
+        requires packets { length self.old.packets ≤ self.old.frame }
+        ensures planning { OnOk result (planning_of self.new ≡ frames_of (planning_of self.old) item.now) }
+        ensures frame { OnOk result (self.new.frame + length self.new.frames.items ≤ 100000) }
+        ensures packets { OnOk result (length self.new.packets ≤ self.new.frame) }
+        ensures state { OnOk result (self.new.state ≡ self.old.state) }
     {
-        match self.written.check(&entry) {
-            Ok(()) => {
-                self.written.append(alloc, entry)?;
-                self.steps.push(Step::Append(entry))
-            }
-            Err(fault) => self.refused.push((number, ItemFault::Entry(fault))),
+        match *item {
+            Item::Send { frames } => self.send_wanted(frames),
+            _ => Ok(()),
         }
     }
 
-    /// Applies the item of this number.
-    pub fn apply(&mut self, alloc: Global, number: u32, item: &Item) -> Result<(), NoMemory>
-        requires built { is_built_item item.now ≡ true }
+    /// Takes an item that fits: its steps, and its frames.
+    fn take(&mut self, alloc: Global, item: &Item) -> Result<(), NoMemory>
+        requires fits { item_fault self.old.state.settings self.old.state.script item.now ≡ None }
         requires frame { self.old.frame + length self.old.frames.items ≤ 100000 }
         requires packets { length self.old.packets ≤ self.old.frame }
-        ensures planning { OnOk result ((s : Settings) → s.hosts ≡ self.old.written.hosts
-            → planning_of self.new ≡ item_applied number (planning_of self.old) item.now (item_fault s (script_of self.old) item.now)) }
+        ensures planning { OnOk result (planning_of self.new ≡ frames_of (stepped (record (planning_of self.old) { script = script_after self.old.state.script item.now }) (item_steps item.now)) item.now) }
         ensures frame { OnOk result (self.new.frame + length self.new.frames.items ≤ 100000) }
         ensures packets { OnOk result (length self.new.packets ≤ self.new.frame) }
-        ensures hosts { OnOk result (self.new.written.hosts ≡ self.old.written.hosts) }
+        ensures settings { OnOk result (self.new.state.settings ≡ self.old.state.settings) }
     {
-        match *item {
-            Item::Entry(entry) => self.write(alloc, number, entry),
-            Item::Wait => self.steps.push(Step::Wait),
-            Item::Send { frames } => self.send_wanted(frames),
-            _ => unreachable!(),
+        self.state.apply(alloc, item)?;
+        add_steps(&mut self.steps, item)?;
+        self.send_for(item)
+    }
+
+    /// Applies the item of this number, or refuses it.
+    pub fn apply(&mut self, alloc: Global, number: u32, item: &Item) -> Result<(), NoMemory>
+        requires frame { self.old.frame + length self.old.frames.items ≤ 100000 }
+        requires packets { length self.old.packets ≤ self.old.frame }
+        ensures planning { OnOk result (planning_of self.new
+            ≡ item_applied number (planning_of self.old) item.now (item_fault self.old.state.settings self.old.state.script item.now)) }
+        ensures frame { OnOk result (self.new.frame + length self.new.frames.items ≤ 100000) }
+        ensures packets { OnOk result (length self.new.packets ≤ self.new.frame) }
+        ensures settings { OnOk result (self.new.state.settings ≡ self.old.state.settings) }
+    {
+        match self.state.check(item) {
+            Ok(()) => self.take(alloc, item),
+            Err(fault) => self.refused.push((number, fault)),
         }
     }
 }

@@ -1,13 +1,9 @@
 -- Lists of names, seen as lists of bytes.
-use Rattle.std.proofs.Common.{◌≡◌, ◌+◌, Bool, true, false, List, [], ◌∷◌, ◌++◌, map, cond, refl, ap, sym, ◌∙◌, string_bytes, bytes_eq, String, Global, not, ◌||◌}
+use Rattle.std.proofs.Common.{◌≡◌, ◌+◌, Bool, true, false, List, [], ◌∷◌, ◌++◌, map, cond, refl, ap, sym, ◌∙◌, string_bytes, bytes_eq, String, Global, not}
 use Rattle.std.specs.Bool.{if◌then◌else◌}
 use Rattle.std.specs.String.{string_eq}
 use Rattle.std.specs.List.{list_any, position_or_len, prefix_len}
-
--- a test of what f gives
-pub list_any-map : {A B : Type 0} (f : A → B) (p : B → Bool) (xs : List A) → list_any p (map f xs) ≡ list_any (λ x. p (f x)) xs
-list_any-map f p [] = refl
-list_any-map f p (x ∷ xs) = ap (λ b. p (f x) || b) (list_any-map f p xs)
+use Rattle.and_planner.proofs.Mapped.{list_any-map}
 
 pub prefix_len-map : {A B : Type 0} (f : A → B) (p : B → Bool) (xs : List A) → prefix_len p (map f xs) ≡ prefix_len (λ x. p (f x)) xs
 prefix_len-map f p [] = refl

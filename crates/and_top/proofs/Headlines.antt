@@ -90,14 +90,14 @@ pub answers : (names : Named) (old mid new : Disk) (before after : Stream) (scen
     → Stays old mid → Calls 2 old mid → ScenarioAt old names.scenario scenario → CaptureAt old names.capture capture → AreTexts scenario capture texts → name ≡ trace_name names
     → Writes 1 name mid new before after texts.trace.items texts.report.items result → Answers names old new before after result
 answers names old mid new before after scenario capture texts name result stays two at_scenario at_capture are name_is w =
-    let can : CanPlan scenario capture = can_plan at_scenario.bytes at_capture.bytes scenario capture at_scenario.text at_scenario.built at_capture.reads in
+    let can : CanPlan scenario capture = can_plan at_scenario.bytes at_capture.bytes scenario capture at_scenario.text at_capture.reads in
     let ran : Ran names old = record {
       scenario = scenario;
       capture = capture;
       scenario_at = at_scenario;
       capture_at = at_capture;
       sound = planned_is_sound scenario capture can.is can.few_frames;
-      built = planned_is_built scenario capture can.built;
+      built = planned_is_built scenario capture at_scenario.built;
       history = are.history;
       replays = are.replays;
     } in

@@ -6,6 +6,7 @@
 
 ghost use Rattle.std.specs.Prelude.{◌≤◌, length, IfOk};
 ghost use Rattle.and_planner.specs.Plans.{CanPlan};
+ghost use Rattle.and_planner.specs.Scenarios.{IsScenario, IsBuiltScenario};
 
 use and_capture::{Bytes, Capture, Frames, Taken};
 use and_events::Scenario;
@@ -39,7 +40,7 @@ const FRAME: [u8; 54] = [
 
 /// Why there is no run.
 enum Fault {
-    /// The scenario is none that can be planned so far.
+    /// The scenario is none that the system can run so far.
     Scenario,
     /// Memory ran out.
     NoMemory,
@@ -71,10 +72,10 @@ fn copies(alloc: Global, count: u32) -> Result<Capture, NoMemory>
     })
 }
 
-/// The scenario, which can be planned.
-#[tactic(auto, using(crate::proofs::Plannable::can_plan))]
+/// The scenario, which the system can run.
 fn scenario(alloc: Global) -> Result<Scenario, Fault>
-    ensures { IfOk result (λ s. (c : Capture) → length c.frames ≤ 100000 → CanPlan s c) }
+    ensures fits { IfOk result (λ s. IsScenario s) }
+    ensures built { IfOk result (λ s. IsBuiltScenario s) }
 {
     let Ok(scenario) = read_scenario(alloc, SCENARIO.as_bytes()) else {
         return Err(Fault::Scenario);
@@ -88,7 +89,8 @@ fn scenario(alloc: Global) -> Result<Scenario, Fault>
 
 /// Plans the scenario and the capture, and runs the plan; says how many lines the book has.
 fn lines_of(alloc: Global, scenario: Scenario, capture: Capture) -> Result<u64, NoMemory>
-    requires { CanPlan scenario capture }
+    requires can { CanPlan scenario capture }
+    requires built { IsBuiltScenario scenario }
 {
     let plan = plan(alloc, scenario, capture)?;
     let book = replay_run(alloc, plan, Turns::Plain)?;

@@ -5,8 +5,8 @@ use Rattle.and_planner.proofs.making.apply_all.Given as goal
 
 abbrev pub invariant-loop-number : goal.invariant-loop-number
 invariant-loop-number l = record {
-  planning : items_applied l.settings l.number (drop l.number l.items) (planning_of l.planner) ≡ items_applied l.settings 0 l.items (nothing_planned l.fn.frames.items);
+  planning : items_applied l.fn.settings l.number (drop l.number l.items) (planning_of l.planner) ≡ items_applied l.fn.settings 0 l.items (nothing_planned l.fn.frames.items);
   frame : l.planner.frame + length l.planner.frames.items ≤ 100000;
   packets : length l.planner.packets ≤ l.planner.frame;
-  hosts : l.planner.written.hosts ≡ l.settings.hosts;
+  settings : l.planner.state.settings ≡ l.fn.settings;
 }

@@ -5,4 +5,4 @@ pub returns-clause-sound : goal.returns-clause-sound
 returns-clause-sound c = sound_plan c.args.scenario c.args.capture c.requires c.made.result c.made.ensures.planned
 
 pub returns-clause-built : goal.returns-clause-built
-returns-clause-built c = built_plan c.args.scenario c.args.capture c.requires c.made.result c.made.ensures.planned
+returns-clause-built c built = built_plan c.args.scenario c.args.capture built c.made.result c.made.ensures.planned

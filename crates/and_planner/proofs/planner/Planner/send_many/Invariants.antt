@@ -8,7 +8,7 @@ invariant-loop-left l = record {
   planning : send_frames l.left (planning_of l.self) ≡ send_frames l.count (planning_of l.initial.self);
   frame : l.self.frame + length l.self.frames.items ≤ 100000;
   packets : length l.self.packets ≤ l.self.frame;
-  written : l.self.written ≡ l.initial.self.written;
+  state : l.self.state ≡ l.initial.self.state;
 }
 
 abbrev pub decreases-loop-left : goal.decreases-loop-left

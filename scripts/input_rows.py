@@ -2,11 +2,15 @@
 """Writes the rows of crates/input_rows: texts and files that are read, and what each is answered.
 
 The tables below are written from the formats' tables of items and fields. What a row must answer follows from them by the order of checks: an
-unknown name, then the fields in the table's order, and of each field its kind before its form. Rows that no table gives stand by hand.
+unknown name, then the fields in the table's order, and of each field its kind before its form. Rows that no table gives stand by hand, and so do
+the plans of scripts; the model of model.py has to plan the same.
 """
 import json
 import struct
 import sys
+
+import formats
+import model
 
 NO_NUMBER = ['"1"', "1.0", "1e2", "-1", "null", "true", "[1]", "{}", "18446744073709551616"]
 NO_TEXT = ["7", "null", "true", '["a"]', "{}"]
@@ -248,6 +252,116 @@ def captures():
         capture(bytes.fromhex(start) + bytes(20), "Magic")
 
 
+# ---- plans
+
+# A frame of the VM a, one of b, one that is no IPv4, one of nobody, and one of nobody that is no IPv4 either.
+FRAME_A = bytes.fromhex("0200000000020200000000010800450000280000400040060000" "0a0000010a000002" "1000005000000001000000005002200000000000")
+FRAME_B = FRAME_A[:11] + b"\x02" + FRAME_A[12:]
+ARP_OF_A = FRAME_A[:12] + b"\x08\x06" + FRAME_A[14:]
+NOBODY = FRAME_A[:11] + b"\x09" + FRAME_A[12:]
+ARP_OF_NOBODY = ARP_OF_A[:11] + b"\x09" + ARP_OF_A[12:]
+
+
+def item(do, **fields):
+    return json.dumps({"do": do, **fields}, separators=(",", ":"))
+
+
+def vm(name, number, host, net=7):
+    return item("add_vm", vm=name, net=net, mac="02:00:00:00:%02x:%02x" % divmod(number, 256), ip="10.0.%d.%d" % divmod(number, 256), host=host)
+
+
+def rule(number, net=7):
+    return item("add_rule", net=net, number=number, priority=1, side="ingress", action="allow")
+
+
+def route(number, net=7, **target):
+    return item("add_route", net=net, number=number, prefix="10.0.0.0/8", **target)
+
+
+TWO_VMS = [item("add_net", net=7), vm("a", 1, 0), vm("b", 2, 1), rule(1), route(1, target="drop")]
+TWO_VMS_LOG = "add_net:7 add_vm:0:0 add_vm:1:1 add_rule:7:1 add_route:7:1".split()
+
+
+def words_of_entry(entry):
+    numbers = {"add_vm": ("vm", "host"), "remove_vm": ("vm",), "place": ("vm", "host"), "tick": ()}.get(entry["do"], ("net", "number"))
+    return ":".join([entry["do"], *(str(entry[n]) for n in numbers if n in entry)])
+
+
+def words_of_step(step):
+    if step["do"] == "append":
+        return "append:" + words_of_entry(step["entry"])
+    if step["do"] in ("hold", "free"):
+        return "%s:%s%d:%s" % (step["do"], *step["node"], step["what"])
+    return ":".join([step["do"], *(str(step[n]) for n in ("packet", "vm", "host") if n in step)])
+
+
+def planned_by_model(text, data):
+    made = model.Plan(formats.read_scenario(text.encode()), formats.read_capture(data))
+    parts = [("steps", map(words_of_step, made.steps)), ("log", map(words_of_entry, made.log)), ("packets", (str(p["vm"]) for p in made.packets)),
+             ("refused", ("%d:%s" % it for it in made.refused)), ("skipped", ("%d:%s" % it for it in made.skipped)),
+             ("unsent", [str(len(made.frames) - made.next)])]
+    return "; ".join(" ".join([name, *words]) for name, words in parts)
+
+
+def plan(items, steps, log, frames=(), packets="", refused=(), skipped="", unsent=0):
+    """A row of the plan of these items, in a system of two hosts and a gateway."""
+    text = '{"hosts":2,"gateways":1,"script":[' + ",".join(items) + "]}"
+    data = file_of("<", 0xA1B2C3D4, [(1, 2, len(frame), frame) for frame in frames])
+    parts = ["steps", *steps, "finish;", "log", *log, ";", "packets", *packets.split(), ";", "refused", *refused, ";", "skipped", *skipped.split(), ";", "unsent", str(unsent)]
+    answer = " ".join(parts).replace(" ;", ";")
+    assert planned_by_model(text, data) == answer, (planned_by_model(text, data), answer)
+    rows.append((f"plan {data.hex()} {text}", answer))
+
+
+def appended(log):
+    return ["append:" + words for words in log]
+
+
+def plans():
+    # Items of each kind that fit. A tick is reviewed, and the end of a blackout places the VM.
+    log = "add_net:7 add_net:8 add_vm:0:0 add_vm:1:1 add_rule:7:1 del_rule:7:1 add_route:7:1 add_route:7:2 del_route:7:1 tick".split()
+    plan([item("add_net", net=7), item("add_net", net=8), vm("a", 1, 0), vm("b", 2, 1), rule(1), item("del_rule", net=7, number=1), route(1, target="drop"),
+          route(2, target="peer", peer=8), item("del_route", net=7, number=1), item("tick"), item("wait"), item("hold", node="h1", what="install"),
+          item("free", node="h1", what="install"), item("blackout", vm="a", host=1), item("resume", vm="a"), item("remove_vm", vm="b"), item("send")],
+         appended(log) + "review wait hold:h1:install free:h1:install blackout:0:1 resume:0 append:remove_vm:1 inject:0".split(),
+         log + ["place:0:1", "remove_vm:1"], [FRAME_A], packets="0")
+    # Each item alone is refused, by the first check that fails, and changes nothing.
+    faults = [
+        ("NetTaken", item("add_net", net=7)), ("NoNet", vm("a", 1, 9, net=9)), ("VmTaken", vm("a", 1, 9)), ("NoHost", vm("c", 1, 2)),
+        ("MacTaken", vm("c", 1, 0)), ("AddressTaken", vm("c", 3, 0).replace("10.0.0.3", "10.0.0.1")), ("NoVm", item("remove_vm", vm="c")),
+        ("NoNet", rule(1, net=9)), ("RuleTaken", rule(1)), ("NoNet", item("del_rule", net=9, number=1)), ("NoRule", item("del_rule", net=7, number=2)),
+        ("NoNet", route(1, net=9, target="local")), ("NoNet", route(1, target="peer", peer=9)), ("RouteTaken", route(1, target="local")),
+        ("NoNet", item("del_route", net=9, number=1)), ("NoRoute", item("del_route", net=7, number=2)), ("NoVm", item("blackout", vm="c", host=9)),
+        ("NoHost", item("blackout", vm="a", host=2)), ("SameHost", item("blackout", vm="a", host=0)), ("NoVm", item("resume", vm="c")),
+        ("NotPaused", item("resume", vm="a")), ("NoNode", item("hold", node="h2", what="install")), ("NoNode", item("free", node="g1", what="forward")),
+        ("NoHold", item("free", node="g0", what="forward"))]
+    plan(TWO_VMS + [it for _, it in faults] + [item("wait")], appended(TWO_VMS_LOG) + ["wait"], TWO_VMS_LOG,
+         refused=["%d:%s" % (len(TWO_VMS) + i, fault) for i, (fault, _) in enumerate(faults)])
+    # What is held and who is in a blackout stands after a refusal, and what is held at the end is freed, hosts before gateways, installs before forwarding.
+    plan(TWO_VMS + [item("hold", node="g0", what="forward"), item("hold", node="h1", what="install"), item("hold", node="h1", what="install"),
+                    item("hold", node="h0", what="forward"), item("blackout", vm="b", host=0), item("hold", node="h0", what="install"), vm("c", 3, 1),
+                    item("blackout", vm="a", host=1), item("blackout", vm="b", host=9), item("blackout", vm="b", host=1), item("remove_vm", vm="b"),
+                    item("resume", vm="b"), item("resume", vm="b"), item("blackout", vm="b", host=1)],
+         appended(TWO_VMS_LOG) + "hold:g0:forward hold:h1:install hold:h0:forward blackout:1:0 hold:h0:install resume:1".split()
+         + "free:h0:install free:h0:forward free:h1:install free:g0:forward".split(),
+         TWO_VMS_LOG + ["place:1:0"],
+         refused="7:HoldTaken 11:Held 12:Held 13:NoHost 14:Paused 15:Paused 17:NotPaused 18:Held".split())
+    # A send reaches so many frames, of which some are skipped, each for the first reason that holds.
+    plan(TWO_VMS + [item("send", frames=2), item("blackout", vm="b", host=0), item("send", frames=4), item("send", frames=1)],
+         appended(TWO_VMS_LOG) + "inject:0 blackout:1:0 inject:1 inject:2".split(), TWO_VMS_LOG,
+         [FRAME_B, ARP_OF_A, FRAME_B, NOBODY, ARP_OF_NOBODY, FRAME_A, FRAME_A, FRAME_A], packets="1 0 0",
+         skipped="1:NotIp4 2:PausedSource 3:NoSource 4:NotIp4", unsent=1)
+    plan(TWO_VMS + [item("send"), item("send", frames=1)], appended(TWO_VMS_LOG) + ["inject:0", "inject:1"], TWO_VMS_LOG, [FRAME_A, FRAME_B], packets="0 1")
+    # The most networks, VMs, rules and routes, and one more of each.
+    nets = ["add_net:%d" % n for n in range(1, 65)]
+    plan([item("add_net", net=n) for n in range(1, 66)], appended(nets), nets, refused=["64:TooMany"])
+    vms = ["add_net:7"] + ["add_vm:%d:1" % n for n in range(1024)]
+    plan([item("add_net", net=7)] + [vm("v%d" % n, n, 1) for n in range(1025)], appended(vms), vms, refused=["1025:TooMany"])
+    numbered = ["add_net:7"] + ["add_rule:7:%d" % n for n in range(1, 257)] + ["add_route:7:%d" % n for n in range(1, 257)]
+    plan([item("add_net", net=7)] + [rule(n) for n in range(1, 257)] + [route(n, target="local") for n in range(1, 257)] + [rule(257), route(257, target="local")],
+         appended(numbered), numbered, refused=["513:TooMany", "514:TooMany"])
+
+
 def main():
     for head, fields in OBJECTS:
         each_field(head, fields)
@@ -255,6 +369,7 @@ def main():
         fields_by_the_table(head, fields)
     by_hand()
     captures()
+    plans()
     where = sys.argv[1] if len(sys.argv) > 1 else "crates/input_rows"
     with open(where + "/stdin", "w", encoding="utf-8") as lines:
         lines.writelines(row + "\n" for row, _ in rows)

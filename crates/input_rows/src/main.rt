@@ -1,14 +1,17 @@
-//! A program to check the reading of scenarios and captures by: each line of its input is the word `scenario` and a JSON text, or the word
-//! `capture` and the bytes of a file in hexadecimal digits, and it writes a line for each: `accepted` and what was read of a capture, or the
-//! fault's name and its path or place.
+//! A program to check the reading of scenarios and captures by, and the plans of both: each line of its input is the word `scenario` and a
+//! JSON text, the word `capture` and the bytes of a file in hexadecimal digits, or the word `plan` with such digits and a JSON text. It writes a
+//! line for each: `accepted` and what was read of a capture, the fault's name and its path or place, or what is planned.
 //!
 //! Its lines are written by `scripts/input_rows.py`. It promises nothing: the stored run shows what is read.
 #![tactic(auto)]
 
 ghost use Rattle.std.specs.Prelude.{◌≤◌};
 
+mod planned;
+
 use and_capture::{Capture, CaptureFault, Taken, read_capture};
 use and_script::{ScenarioFault, read_scenario};
+use planned::tell_plan;
 use std::alloc::Global;
 use std::io;
 
@@ -100,6 +103,10 @@ fn main(rt: HostRuntime) -> io::Result<()> {
         } else if let Some(digits) = line.strip_prefix("capture ") {
             let bytes = bytes_of(rt.alloc(), digits.as_bytes())?;
             tell_capture(&rt, bytes.as_slice())?;
+        } else if let Some(inputs) = line.strip_prefix("plan ") {
+            let (digits, text) = inputs.split_once(' ').unwrap_or((inputs, ""));
+            let bytes = bytes_of(rt.alloc(), digits.as_bytes())?;
+            tell_plan(&rt, bytes.as_slice(), text.as_bytes())?;
         }
     }
     Ok(())

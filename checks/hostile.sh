@@ -1,6 +1,6 @@
 #!/usr/bin/env bash
 # Hostile text costs what it weighs: texts of a million bytes, of 65,537 items and of names that stand twice end with their line in under a second
-# and 200 MB of memory each, and so does a capture of 100,001 records.
+# and 200 MB of memory each, and so does a capture of 100,001 records. The files stand at each limit, too, and one past it.
 set -u
 cd "$(dirname "$0")/.." || exit 1
 program=crates/andromeda/out/andromeda
@@ -24,6 +24,14 @@ EMPTY = struct.pack("<IHHiIII", 0xA1B2C3D4, 2, 4, 0, 0, 262144, 1)
 def filled(start, piece, end=b""):
     return start + piece * ((SIZE - len(start) - len(end)) // len(piece)) + end
 
+
+def record(length):
+    return struct.pack("<IIII", 0, 0, length, length) + bytes(length)
+
+
+# A capture of 33,554,432 bytes: 127 records of the longest frame, and one of what is left.
+LONGEST = EMPTY + record(262_144) * 127 + record(260_072)
+assert len(LONGEST) == 33_554_432
 
 # A text, a capture, the status and the line.
 rows = [
@@ -52,6 +60,14 @@ rows = [
     ("the longest capture", HEAD + b"]}", bytes(33_554_432), 3, b"capture: Magic\n"),
     ("a byte more of it", HEAD + b"]}", bytes(33_554_433), 7, ("too long: %s/c.pcap\n" % work).encode()),
     ("as many records", HEAD + b"]}", EMPTY + bytes(16 * 100_000), 0, b""),
+    # Each limit, and one past it.
+    ("64 hosts", b'{"hosts":64,"gateways":1,"script":[]}', EMPTY, 0, b""),
+    ("65 hosts", b'{"hosts":65,"gateways":1,"script":[]}', EMPTY, 2, b"scenario: Range /hosts\n"),
+    ("as many items", HEAD + b",".join([b'{"do":"wait"}'] * 65_536) + b"]}", EMPTY, 0, b""),
+    ("the longest scenario that is taken", HEAD + b" " * (16_777_216 - len(HEAD) - 2) + b"]}", EMPTY, 0, b""),
+    ("the longest capture that is taken", HEAD + b"]}", LONGEST, 0, b""),
+    ("the longest record", HEAD + b"]}", EMPTY + record(262_144), 0, b""),
+    ("a byte more of it", HEAD + b"]}", EMPTY + record(262_145), 3, b"capture: LongRecord 24\n"),
     ("a long record", HEAD + b"]}", EMPTY + struct.pack("<IIII", 0, 0, 0xFFFFFFFF, 0), 3, b"capture: LongRecord 24\n"),
 ]
 bad = 0

@@ -1,6 +1,6 @@
 //! The book.
 ghost use Rattle.std.specs.List.{All};
-ghost use Rattle.std.specs.Prelude.{◌≡◌, ◌+◌, ◌≤◌, [], IfOk, OnOk};
+ghost use Rattle.std.specs.Prelude.{◌≡◌, ◌+◌, ◌^◌, ◌<◌, ◌≤◌, [], length, IfOk, OnOk};
 ghost use Rattle.and_events.specs.Places.{actor_of, seat_of};
 ghost use Rattle.and_events.specs.Run.{Run, past};
 ghost use Rattle.and_events.specs.Sound.{IsSound, IsBuilt};
@@ -131,11 +131,13 @@ impl Book {
         let _ = &self.plan;
     }
 
-    /// What is true of every book: its lines are a legal run of its plan, which is sound and of what the program runs so far.
+    /// What is true of every book: its lines are a legal run of its plan, which is sound and of what the program runs so far; and
+    /// the turn lock can count them.
     pub fn is_run(&self)
         ensures sound { IsSound self.now.plan }
         ensures built { IsBuilt self.now.plan }
         ensures run { Run self.now.plan (past self.now.lines) }
+        ensures few { length self.now.lines < 2 ^ 63 }
     {
         let _ = &self.next;
     }

@@ -186,6 +186,7 @@ fn a_book_is_handed_on(rt: HostRuntime) -> Result<(), Fail> {
     let (lock, mut first) = TurnLock::make(rt.alloc(), book).expect(&rt, "memory");
     let book = lock.enter(&rt, &mut first);
     assert_eq!(rt; book.line_count(), 0);
+    book.is_run();
     lock.leave(&mut first, book);
     let closed = lock.close(first);
     assert!(rt; closed.lines().is_empty());

@@ -1,5 +1,5 @@
 //! A program that draws 300 lists of operations from a seeded generator, and compares what tables, decisions and flow caches answer with the plain
-//! policy: after every twelfth operation, and at the end of each list.
+//! policy: after every twelfth draw, and at the end of each list. Decisions are compared without a cache, and the cache by itself.
 //!
 //! The entries are those that a log takes, of every kind, and among them are orders. It writes a line for each hundred lists and for each answer that
 //! differs, and ends with status 1 where one did. It promises nothing beside that it ends. It stands on the crates whose calls it compares, and on the

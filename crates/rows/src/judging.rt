@@ -5,7 +5,7 @@ use and_capture::read_capture;
 use and_events::{Event, Plan};
 use and_plain::first_illegal;
 use and_plain_fates::{fates, is_complete, is_fresh, is_in_plain_order, is_just};
-use and_planner::{is_built, plan};
+use and_planner::plan;
 use and_policy::NoMemory;
 use and_script::read_scenario;
 use and_trace::{TraceAnswer, read_trace};
@@ -40,9 +40,6 @@ pub fn plan_of(alloc: Global, scenario: &[u8], capture: &[u8]) -> Result<Plan>
     let Ok(scenario) = read_scenario(alloc, scenario) else {
         bail!("the scenario is refused");
     };
-    if !is_built(&scenario) {
-        bail!("the scenario has no plan yet");
-    }
     let Ok(capture) = read_capture(alloc, capture) else {
         bail!("the capture is refused");
     };

@@ -5,6 +5,7 @@ use Rattle.std.specs.Option.{option_or}
 use Rattle.std.specs.Str.{bytes_eq}
 use Rattle.and_outside.specs.Causes.{raised}
 use Rattle.and_outside.specs.Disk.{Disk}
+use Rattle.and_outside.specs.Stream.{Stream}
 use Rattle.and_outside.specs.declared.counts.Counts.{Counts}
 
 -- a name, and what it was given to hold
@@ -100,17 +101,22 @@ after_write s name bytes =
     else with_file (begun s) name bytes
 
 -- a sink in memory: what was written, the numbers of the puts that fail, the number of the next put,
--- the bytes that are left, and the count
+-- the bytes that are left, the count, and what it was when the last put began
 pub record Roll : Type 0 where
   pub bytes : List ℕ
   pub failing : List ℕ
   pub next : ℕ
   pub room : ℕ
   pub faults : ℕ
+  pub before : ℕ
+
+-- as a sink is seen by its callers: it tells everything
+abbrev pub stream_of : Roll → Stream
+stream_of r = record { faults = r.faults; written = Some r.bytes; calls = r.next; before = r.before }
 
 -- nothing was written yet
 abbrev pub empty_roll : ℕ → List ℕ → Roll
-empty_roll room failing = record { bytes = []; failing = failing; next = 0; room = room; faults = 0 }
+empty_roll room failing = record { bytes = []; failing = failing; next = 0; room = room; faults = 0; before = 0 }
 
 -- the next put of the bytes fails
 abbrev pub put_fails : Roll → List ℕ → Bool
@@ -120,5 +126,5 @@ put_fails r bytes = is_listed r.failing r.next || nat_lt r.room (length bytes)
 abbrev pub after_put : Roll → List ℕ → Roll
 after_put r bytes =
     if put_fails r bytes
-    then record r { next = raised 1 r.next; faults = raised 1 r.faults }
-    else record r { next = raised 1 r.next; bytes = r.bytes ++ bytes; room = r.room - length bytes }
+    then record r { next = raised 1 r.next; before = r.faults; faults = raised 1 r.faults }
+    else record r { next = raised 1 r.next; before = r.faults; bytes = r.bytes ++ bytes; room = r.room - length bytes }

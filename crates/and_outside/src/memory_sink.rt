@@ -1,7 +1,7 @@
 //! A sink that keeps in memory what is put into it.
 ghost use Rattle.std.specs.Prelude.{◌≡◌, ◌≤◌, ◌+◌, ◌++◌, ◌↔◌, take, vec_len, IfOk, IsErr, IsTrue, OnOk, OnErr, Some, ℕ, List};
-ghost use Rattle.and_outside.specs.Causes.{Rose};
-ghost use Rattle.and_outside.specs.Memory.{Roll, empty_roll, put_fails, after_put};
+ghost use Rattle.and_outside.specs.Causes.{Rose, raised};
+ghost use Rattle.and_outside.specs.Memory.{Roll, empty_roll, put_fails, after_put, stream_of};
 
 use crate::answer::{Failed, NoMemory};
 use crate::numbers::is_failing;
@@ -17,6 +17,7 @@ pub struct MemorySink {
     next: u64,
     room: u64,
     faults: u64,
+    before: u64,
 }
 
 impl Model for MemorySink {
@@ -26,7 +27,7 @@ impl Model for MemorySink {
 
     ghost Value = { Roll };
 
-    ghost view = { λ s. record { bytes = s.bytes.items; failing = s.failing.items; next = s.next; room = s.room; faults = s.faults } };
+    ghost view = { λ s. record { bytes = s.bytes.items; failing = s.failing.items; next = s.next; room = s.room; faults = s.faults; before = s.before } };
 
     // The memory for all that is still to come is there.
     ghost invariant = { λ s. vec_len s.bytes + s.room ≤ vec_capacity s.bytes };
@@ -49,6 +50,7 @@ impl MemorySink {
             next: 0,
             room,
             faults: 0,
+            before: 0,
         })
     }
 
@@ -68,25 +70,23 @@ impl MemorySink {
 }
 
 impl Sink for MemorySink {
-    ghost use Rattle.std.specs.Prelude.{Some};
-
-    ghost faults = { λ s. s.faults };
-
-    ghost written = { λ s. Some s.bytes };
+    ghost stream = { λ s. stream_of s };
 
     /// Fails exactly where the number of the put is in the list or the room does not suffice. A put
     /// that fails appends nothing and uses no room.
     fn put(&mut self, bytes: &[u8]) -> Result<(), Failed>
-        ensures appended { OnOk result ((w : List ℕ) → Some self.old.bytes ≡ Some w → Some self.new.bytes ≡ Some (w ++ bytes.now)) }
-        ensures part { OnErr result ((w : List ℕ) → Some self.old.bytes ≡ Some w
-            → (n : ℕ) × (Some self.new.bytes ≡ Some (w ++ take n bytes.now))) }
-        ensures failed { OnErr result (Rose self.old.faults self.new.faults) }
-        ensures counts { self.old.faults ≤ self.new.faults }
+        ensures appended { OnOk result ((w : List ℕ) → (stream_of self.old).written ≡ Some w → (stream_of self.new).written ≡ Some (w ++ bytes.now)) }
+        ensures part { OnErr result ((w : List ℕ) → (stream_of self.old).written ≡ Some w
+            → (n : ℕ) × ((stream_of self.new).written ≡ Some (w ++ take n bytes.now))) }
+        ensures failed { OnErr result (Rose (stream_of self.old).faults (stream_of self.new).faults) }
+        ensures counts { (stream_of self.old).faults ≤ (stream_of self.new).faults }
+        ensures call { ((stream_of self.new).calls ≡ raised 1 (stream_of self.old).calls) × ((stream_of self.new).before ≡ (stream_of self.old).faults) }
         ensures fails { IsErr result ↔ IsTrue (put_fails self.old bytes.now) }
         ensures after { self.new ≡ after_put self.old bytes.now }
     {
         let refuses = self.refuses(bytes);
         self.next = self.next.saturating_add(1);
+        self.before = self.faults;
         if refuses || self.bytes.extend_from_slice(bytes).is_err() {
             self.faults = self.faults.saturating_add(1);
             return Err(Failed);

@@ -13,25 +13,32 @@ use std::io::Write;
 pub struct RealSink<W: Write + Drop> {
     writer: W,
     faults: u64,
+    calls: u64,
+    before: u64,
 }
 
 impl<W: Write + Drop> RealSink<W> {
-    /// A sink over this writer, with its count at 0.
+    /// A sink over this writer, with its counts at 0.
     pub fn make(writer: W) -> RealSink<W>
-        ensures { (result.writer ≡ writer) × (result.faults ≡ 0) }
+        ensures { result ≡ record { writer = writer; faults = 0; calls = 0; before = 0 } }
     {
-        RealSink { writer, faults: 0 }
+        RealSink {
+            writer,
+            faults: 0,
+            calls: 0,
+            before: 0,
+        }
     }
 }
 
 impl<W: Write + Drop> Sink for RealSink<W> {
     ghost use Rattle.std.specs.Prelude.{None};
 
-    ghost faults = { λ s. s.faults };
-
-    ghost written = { λ _. None };
+    ghost stream = { λ s. record { faults = s.faults; written = None; calls = s.calls; before = s.before } };
 
     fn put(&mut self, bytes: &[u8]) -> Result<(), Failed> {
+        self.calls = self.calls.saturating_add(1);
+        self.before = self.faults;
         if write_all(&mut self.writer, bytes) {
             return Ok(());
         }

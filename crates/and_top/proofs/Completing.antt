@@ -13,7 +13,7 @@ use Rattle.and_top.specs.Answers.{Answers, Done}
 use Rattle.and_top.specs.Inputs.{max_scenario_len, max_capture_len, RefusedAs, CaptureRefusedAs, ScenarioAt, NoScenarioAt, CaptureAt, NoCaptureAt, ScenarioFails, CaptureFails, Refuses}
 use Rattle.and_top.specs.Outside.{IsQuiet, ReadFailed, WasTooLong}
 use Rattle.and_top.specs.Statuses.{TellsScenario, TellsCapture, TellsNoScenario, TellsNoCapture, CanComplete, MustRefuseScenario, MustRefuseCapture, RefusesScenario, RefusesCapture, IsLate, fault_status}
-use Rattle.and_top.specs.Telling.{Stream}
+use Rattle.and_outside.specs.Stream.{Stream}
 use Rattle.and_top.specs.Words.{Named}
 use Rattle.and_top.proofs.Refusing.{not_refused, capture_not_refused}
 

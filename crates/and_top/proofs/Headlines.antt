@@ -30,7 +30,7 @@ use Rattle.and_top.specs.Inputs.{ScenarioAt, CaptureAt}
 use Rattle.and_top.specs.Outside.{Calls, Stays}
 use Rattle.and_top.proofs.Failing.{calls_three}
 use Rattle.and_planner.specs.Plans.{CanPlan}
-use Rattle.and_top.specs.Telling.{Stream}
+use Rattle.and_outside.specs.Stream.{Stream}
 use Rattle.and_top.specs.Words.{Named}
 use Rattle.and_top.proofs.PlansLemmas.{can_plan}
 use Rattle.and_top.specs.Texts.{AreTexts}

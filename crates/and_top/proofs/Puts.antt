@@ -1,37 +1,63 @@
 -- Texts that are put one after another.
-use Rattle.std.proofs.Common.{◌≤◌, ◌+◌, ◌∙◌, ℕ, List, ◌++◌, Some, length, take, min, sym, ap, append_assoc, arith, Bool, true, false, inl, inr}
+use Rattle.std.proofs.Common.{◌≡◌, ◌≤◌, ◌+◌, ◌∙◌, ℕ, List, ◌++◌, Some, length, take, min, sym, ap, append_assoc, arith, Bool, true, false, inl, inr}
 use Rattle.std.specs.Bool.{OnTrue, OnFalse}
 use Rattle.std.proofs.lemmas.List.{take_min, take-append-le}
 use Rattle.std.proofs.Math.Seq.{take-append-add}
-use Rattle.and_top.specs.Telling.{Stream, Wrote, WrotePart, Tells}
+use Rattle.and_outside.specs.Causes.{Rose, raised}
+use Rattle.and_outside.specs.Stream.{Stream}
+use Rattle.and_top.specs.Telling.{Puts, Wrote, WrotePart, Tells}
 
-pub wrote-then : (a b : List ℕ) (old mid new : Stream) → Wrote a old mid → Wrote b mid new → Wrote (a ++ b) old new
-wrote-then a b old mid new first second w told = second (w ++ a) (first w told) ∙ ap Some (append_assoc w a b)
+-- ---- how many puts were made
 
-pub part-after : (a b : List ℕ) (old mid new : Stream) → Wrote a old mid → old.faults ≤ mid.faults → WrotePart b mid new → WrotePart (a ++ b) old new
-part-after a b old mid new first grows (rose, part) = (
-  omega arith,
-  λ w told.
-      let (n, is) = part (w ++ a) (first w told) in
-      (length a + n, is ∙ ap Some (append_assoc w a (take n b) ∙ ap (λ x. w ++ x) (sym (take-append-add a b n)))),
-)
+pub puts-one : (old new : Stream) → new.calls ≡ raised 1 old.calls → new.before ≡ old.faults → Puts 1 old new
+puts-one old new number before = record { number = number; faults = rw before (omega arith) }
 
-pub part-first : (a b : List ℕ) (old new : Stream) → WrotePart a old new → WrotePart (a ++ b) old new
-part-first a b old new (rose, part) = (
-  rose,
-  λ w told.
-      let (n, is) = part w told in
-      let inside : min n (length a) ≤ length a = omega arith in
-      (min n (length a), is ∙ ap (λ x. Some (w ++ x)) (sym (take_min n a) ∙ sym (take-append-le (min n (length a)) a b inside))),
-)
+puts-then : (n m : ℕ) (old mid new : Stream) → Puts n old mid → old.faults ≤ mid.faults → Puts m mid new → Puts (n + m) old new
+puts-then n m old mid new first grows second =
+    let a = first.number in
+    let b = second.number in
+    let c = second.faults in
+    record { number = omega (arith, a, b); faults = omega (arith, grows, c) }
 
-pub tells-after : (a b : List ℕ) (old mid new : Stream) → Wrote a old mid → old.faults ≤ mid.faults → Tells b mid new → Tells (a ++ b) old new
-tells-after a b old mid new first grows told =
-    elim told [ inl all ↦ inl (wrote-then a b old mid new first all) | inr part ↦ inr (part-after a b old mid new first grows part) ]
+-- ---- one text after another
 
-pub tells-first : (a b : List ℕ) (old new : Stream) → WrotePart a old new → Tells (a ++ b) old new
-tells-first a b old new part = inr (part-first a b old new part)
+wrote-then : (n m : ℕ) (a b : List ℕ) (old mid new : Stream) → Wrote n a old mid → old.faults ≤ mid.faults → Wrote m b mid new → Wrote (n + m) (a ++ b) old new
+wrote-then n m a b old mid new first grows second =
+    record { puts = puts-then n m old mid new first.puts grows second.puts; all = λ w told. second.all (w ++ a) (first.all w told) ∙ ap Some (append_assoc w a b) }
 
-pub tells-last : (done : Bool) (text : List ℕ) (old new : Stream) → OnTrue done (Wrote text old new) → OnFalse done (WrotePart text old new) → Tells text old new
+part-after : (n m : ℕ) (a b : List ℕ) (old mid new : Stream) → Wrote n a old mid → old.faults ≤ mid.faults → WrotePart m b mid new → WrotePart (n + m) (a ++ b) old new
+part-after n m a b old mid new first grows second =
+    record {
+      puts = puts-then n m old mid new first.puts grows second.puts;
+      rose = second.rose;
+      part = λ w told.
+          let (k, is) = second.part (w ++ a) (first.all w told) in
+          (length a + k, is ∙ ap Some (append_assoc w a (take k b) ∙ ap (λ x. w ++ x) (sym (take-append-add a b k))));
+    }
+
+part-first : (n : ℕ) (a b : List ℕ) (old new : Stream) → WrotePart n a old new → WrotePart n (a ++ b) old new
+part-first n a b old new first =
+    record {
+      puts = first.puts;
+      rose = first.rose;
+      part = λ w told.
+          let (k, is) = first.part w told in
+          let inside : min k (length a) ≤ length a = omega arith in
+          (min k (length a), is ∙ ap (λ x. Some (w ++ x)) (sym (take_min k a) ∙ sym (take-append-le (min k (length a)) a b inside)));
+    }
+
+pub tells-after : (n m : ℕ) (a b : List ℕ) (old mid new : Stream) → Wrote n a old mid → old.faults ≤ mid.faults → Tells m b mid new → Tells (n + m) (a ++ b) old new
+tells-after n m a b old mid new first grows told =
+    elim told [
+      inl all ↦ inl (wrote-then n m a b old mid new first grows all)
+    | inr rest ↦
+      let (k, few, part) = rest in
+      inr (n + k, omega (arith, few), part-after n k a b old mid new first grows part)
+    ]
+
+pub tells-first : (n m : ℕ) (a b : List ℕ) (old new : Stream) → n ≤ m → WrotePart n a old new → Tells m (a ++ b) old new
+tells-first n m a b old new few part = inr (n, few, part-first n a b old new part)
+
+pub tells-last : (done : Bool) (text : List ℕ) (old new : Stream) → OnTrue done (Wrote 1 text old new) → OnFalse done (WrotePart 1 text old new) → Tells 1 text old new
 tells-last true text old new all part = inl all
-tells-last false text old new all part = inr part
+tells-last false text old new all part = inr (1, omega arith, part)

@@ -8,7 +8,8 @@ use Rattle.and_top.specs.Headline.{Ran, trace_in, report_in}
 use Rattle.and_top.specs.Inputs.{Refuses}
 use Rattle.and_outside.specs.Disk.{Disk}
 use Rattle.and_top.specs.Outside.{Calls, Holds, WriteFailed}
-use Rattle.and_top.specs.Telling.{Stream, Wrote, WrotePart}
+use Rattle.and_outside.specs.Stream.{Stream}
+use Rattle.and_top.specs.Telling.{Wrote, WrotePart}
 use Rattle.and_top.specs.Words.{Named}
 
 -- the names of a job
@@ -42,9 +43,9 @@ pub record Stands (name : List ℕ) (old new : Disk) (text : List ℕ) : Type 0 
 -- in that call, nothing is known of the trace's file, and nothing was put. Where the put failed, faults of the sink rose: the trace stands, and a prefix
 -- of the report
 abbrev pub Writes : ℕ → List ℕ → Disk → Disk → Stream → Stream → List ℕ → List ℕ → Result (Unit {0}) Fault → Type 0
-Writes n name old new before after trace report (Ok done) = Calls n old new × Stands name old new trace × Wrote report before after
+Writes n name old new before after trace report (Ok done) = Calls n old new × Stands name old new trace × Wrote 1 report before after
 Writes n name old new before after trace report (Err (faults.Write which.Trace)) = WriteFailed n old new × (after ≡ before)
-Writes n name old new before after trace report (Err (faults.Write which.Report)) = Calls n old new × Stands name old new trace × WrotePart report before after
+Writes n name old new before after trace report (Err (faults.Write which.Report)) = Calls n old new × Stands name old new trace × WrotePart 1 report before after
 Writes n name old new before after trace report (Err _) = ⊥
 
 -- The answer of a replay between two states of the files and of the report's sink. Where it is no fault of a write, nothing was written or put

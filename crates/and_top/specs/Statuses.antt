@@ -18,7 +18,8 @@ use Rattle.and_script.specs.declared.fault.ScenarioFault.TheVariants as scenario
 use Rattle.and_top.specs.Inputs.{max_scenario_len, max_capture_len, RefusedAs, CaptureRefusedAs}
 use Rattle.and_top.specs.Outside.{IsQuiet}
 use Rattle.std.specs.Fmt.{decimal}
-use Rattle.and_top.specs.Telling.{Stream, Tells}
+use Rattle.and_outside.specs.Stream.{Stream}
+use Rattle.and_top.specs.Telling.{Tells}
 use Rattle.and_top.specs.Words.{Named}
 
 -- the status of each fault; 1 is that of words that are no command
@@ -88,7 +89,7 @@ fault_line names faults.NoMemory = codes "no memory" ++ 10 ∷ []
 -- nothing is said of an Ok; of a fault its line
 abbrev pub Says : Named → Result (Unit {0}) Fault → Stream → Stream → Type 0
 Says names (Ok done) old new = new ≡ old
-Says names (Err fault) old new = Tells (fault_line names fault) old new
+Says names (Err fault) old new = Tells 3 (fault_line names fault) old new
 
 -- A replay was done between these states of the files, of the report's sink and of the user's, and this is its status.
 pub record Replayed (names : Named) (old new : Disk) (before after err_before err_after : Stream) (status : ℕ) : Type 0 where

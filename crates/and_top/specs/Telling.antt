@@ -1,24 +1,24 @@
 -- A text that is put into a sink.
-use Rattle.std.specs.Prelude.{◌≡◌, ◌⊎◌, ℕ, List, ◌++◌, take, Option, Some}
-use Rattle.and_outside.specs.Causes.{Rose}
+use Rattle.std.specs.Prelude.{◌≡◌, ◌≤◌, ◌⊎◌, ℕ, List, ◌++◌, take, Some}
+use Rattle.and_outside.specs.Causes.{Rose, raised}
+use Rattle.and_outside.specs.Stream.{Stream}
 
--- a sink, as contracts see it: its count of faults, and what was written, where that is told
-pub record Stream : Type 0 where
-  pub faults : ℕ
-  pub written : Option (List ℕ)
+-- so many puts were made, of which the last began at a count of faults not below the old one
+pub record Puts (n : ℕ) (old new : Stream) : Type 0 where
+  pub number : new.calls ≡ raised n old.calls
+  pub faults : old.faults ≤ new.before
 
--- the sink x, by the meanings of its type
-abbrev pub stream : {X : Type 0} → (X → ℕ) → (X → Option (List ℕ)) → X → Stream
-stream faults written x = record { faults = faults x; written = written x }
+-- all of the text was appended, by so many puts
+pub record Wrote (n : ℕ) (text : List ℕ) (old new : Stream) : Type 0 where
+  pub puts : Puts n old new
+  pub all : (w : List ℕ) → old.written ≡ Some w → new.written ≡ Some (w ++ text)
 
--- all of the text was appended
-abbrev pub Wrote : List ℕ → Stream → Stream → Type 0
-Wrote text old new = (w : List ℕ) → old.written ≡ Some w → new.written ≡ Some (w ++ text)
+-- the last of so many puts failed, in which the count of faults rose, and a prefix of the text was appended
+pub record WrotePart (n : ℕ) (text : List ℕ) (old new : Stream) : Type 0 where
+  pub puts : Puts n old new
+  pub rose : Rose new.before new.faults
+  pub part : (w : List ℕ) → old.written ≡ Some w → (m : ℕ) × (new.written ≡ Some (w ++ take m text))
 
--- the count of faults rose, and a prefix of the text was appended
-abbrev pub WrotePart : List ℕ → Stream → Stream → Type 0
-WrotePart text old new = Rose old.faults new.faults × ((w : List ℕ) → old.written ≡ Some w → (n : ℕ) × (new.written ≡ Some (w ++ take n text)))
-
--- the text was appended, or a prefix of it where faults rose
-abbrev pub Tells : List ℕ → Stream → Stream → Type 0
-Tells text old new = Wrote text old new ⊎ WrotePart text old new
+-- the text was appended by so many puts, or a prefix of it by some of them, of which the last failed
+abbrev pub Tells : ℕ → List ℕ → Stream → Stream → Type 0
+Tells n text old new = Wrote n text old new ⊎ ((m : ℕ) × (m ≤ n) × WrotePart m text old new)

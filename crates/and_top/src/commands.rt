@@ -1,6 +1,6 @@
 //! The program's command line: words, a status and a line for the user.
 ghost use Rattle.std.specs.Prelude.{◌≡◌, ◌↔◌, ◌⊎◌, ◌++◌, ◌∷◌, [], map, Some, None, IfOk, IfErr, string_bytes};
-ghost use Rattle.and_top.specs.Telling.{stream, Tells};
+ghost use Rattle.and_top.specs.Telling.{Tells};
 ghost use Rattle.and_top.specs.Pieces.{text_of};
 ghost use Rattle.and_top.specs.Words.{Named, command_of};
 ghost use Rattle.and_top.specs.Names.{named};
@@ -42,7 +42,7 @@ fn run<F: Files, O: Sink>(
 ) -> Result<(), Fault>
     ensures leaves { Leaves (trace_name (named names.now)) (F.disk files.old) (F.disk files.new) }
     ensures answer { Answers (named names.now) (F.disk files.old) (F.disk files.new)
-        (stream O.faults O.written out.old) (stream O.faults O.written out.new) result }
+        (O.stream out.old) (O.stream out.new) result }
     ensures complete { CanComplete (named names.now) (F.disk files.old) (F.disk files.new) → IfErr result IsLate }
     ensures scenario { MustRefuseScenario (named names.now) (F.disk files.old) (F.disk files.new) → RefusesScenario result }
     ensures capture { MustRefuseCapture (named names.now) (F.disk files.old) (F.disk files.new) → RefusesCapture result }
@@ -162,7 +162,7 @@ fn place_in(fault: CaptureFault) -> u64
 
 /// Tells the user of a refused capture.
 fn tell_capture<E: Sink>(err: &mut E, fault: CaptureFault)
-    ensures { Tells (capture_line fault) (stream E.faults E.written err.old) (stream E.faults E.written err.new) }
+    ensures { Tells 3 (capture_line fault) (E.stream err.old) (E.stream err.new) }
 {
     let mut digits = Buffer::new();
     let place = digits.format(place_in(fault));
@@ -171,7 +171,7 @@ fn tell_capture<E: Sink>(err: &mut E, fault: CaptureFault)
 
 /// Tells the user of a fault.
 fn tell_fault<E: Sink>(err: &mut E, names: &Names<'_>, fault: &Fault)
-    ensures { Tells (fault_line (named names.now) fault.now) (stream E.faults E.written err.old) (stream E.faults E.written err.new) }
+    ensures { Tells 3 (fault_line (named names.now) fault.now) (E.stream err.old) (E.stream err.new) }
 {
     match fault {
         Fault::Scenario(fault) => tell(err, &line_of_scenario(fault)),
@@ -196,10 +196,10 @@ pub fn andromeda<F: Files, O: Sink, E: Sink>(
         → Leaves (trace_name names) (F.disk files.old) (F.disk files.new) }
     ensures usage { (result ≡ 1) ↔ (command_of (map string_bytes words.now) ≡ None) }
     ensures no_command { command_of (map string_bytes words.now) ≡ None → (files.new ≡ files.old) × (out.new ≡ out.old)
-        × Tells usage_text (stream E.faults E.written err.old) (stream E.faults E.written err.new) }
+        × Tells 3 usage_text (E.stream err.old) (E.stream err.new) }
     ensures replayed { (names : Named) → command_of (map string_bytes words.now) ≡ Some names
         → Replayed names (F.disk files.old) (F.disk files.new)
-        (stream O.faults O.written out.old) (stream O.faults O.written out.new) (stream E.faults E.written err.old) (stream E.faults E.written err.new) result }
+        (O.stream out.old) (O.stream out.new) (E.stream err.old) (E.stream err.new) result }
     ensures complete { (names : Named) → command_of (map string_bytes words.now) ≡ Some names
         → CanComplete names (F.disk files.old) (F.disk files.new)
         → (result ≡ 0) ⊎ ((result ≡ 5) ⊎ (result ≡ 6)) }

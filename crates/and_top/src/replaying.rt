@@ -2,12 +2,12 @@
 ghost use Rattle.std.specs.Prelude.{◌≡◌, IfOk, IfErr, OnOk, string_bytes};
 ghost use Rattle.and_top.specs.Outside.{Calls, Stays};
 ghost use Rattle.and_top.specs.Inputs.{ScenarioAt, CaptureAt, Refuses};
-ghost use Rattle.and_top.specs.Telling.{stream};
 ghost use Rattle.and_top.specs.Statuses.{CanComplete, IsLate, MustRefuseScenario, MustRefuseCapture, RefusesScenario, RefusesCapture};
 ghost use Rattle.and_top.specs.Answers.{Answers, Leaves, Writes, names_in, trace_name};
 
 use crate::answers::{Fault, Job, Which};
 use crate::inputs::{capture_in, scenario_in};
+use crate::line::put;
 use crate::texts::{Texts, texts_of};
 use and_capture::Capture;
 use and_events::Scenario;
@@ -52,14 +52,15 @@ fn write_texts<F: Files, O: Sink>(
 ) -> Result<(), Fault>
     ensures leaves { Leaves name.now (F.disk files.old) (F.disk files.new) }
     ensures writes { Writes 1 name.now (F.disk files.old) (F.disk files.new)
-        (stream O.faults O.written out.old) (stream O.faults O.written out.new) texts.now.trace.items texts.now.report.items result }
+        (O.stream out.old) (O.stream out.new) texts.now.trace.items texts.now.report.items result }
 {
     if files.write(name, &texts.trace).is_err() {
         return Err(Fault::Write(Which::Trace));
     }
-    match out.put(&texts.report) {
-        Ok(()) => Ok(()),
-        Err(_) => Err(Fault::Write(Which::Report)),
+    if put(out, &texts.report) {
+        Ok(())
+    } else {
+        Err(Fault::Write(Which::Report))
     }
 }
 
@@ -72,7 +73,7 @@ fn work<F: Files, O: Sink>(
 ) -> Result<(), Fault>
     ensures leaves { Leaves (trace_name (names_in job.now)) (F.disk files.old) (F.disk files.new) }
     ensures answer { Answers (names_in job.now) (F.disk files.old) (F.disk files.new)
-        (stream O.faults O.written out.old) (stream O.faults O.written out.new) result }
+        (O.stream out.old) (O.stream out.new) result }
 {
     let (scenario, capture) = read_both(alloc, job, files)?;
     let name = trace_file(alloc, job)?;
@@ -100,7 +101,7 @@ pub fn replay<F: Files, O: Sink>(
 ) -> Result<(), Fault>
     ensures leaves { Leaves (trace_name (names_in job.now)) (F.disk files.old) (F.disk files.new) }
     ensures answer { Answers (names_in job.now) (F.disk files.old) (F.disk files.new)
-        (stream O.faults O.written out.old) (stream O.faults O.written out.new) result }
+        (O.stream out.old) (O.stream out.new) result }
     ensures complete { CanComplete (names_in job.now) (F.disk files.old) (F.disk files.new) → IfErr result IsLate }
     ensures scenario { MustRefuseScenario (names_in job.now) (F.disk files.old) (F.disk files.new) → RefusesScenario result }
     ensures capture { MustRefuseCapture (names_in job.now) (F.disk files.old) (F.disk files.new) → RefusesCapture result }

@@ -32,6 +32,7 @@ use Rattle.and_top.proofs.Failing.{calls_three}
 use Rattle.and_planner.specs.Plans.{CanPlan}
 use Rattle.and_outside.specs.Stream.{Stream}
 use Rattle.and_top.specs.Words.{Named}
+use Rattle.and_top.proofs.Only.{only_run}
 use Rattle.and_top.proofs.PlansLemmas.{can_plan}
 use Rattle.and_top.specs.Texts.{AreTexts}
 
@@ -52,6 +53,7 @@ is_replay plan h sound run complete ordered slow spelled =
       fresh = fresh plan h run;
       accounted = λ later earlier is. accounted plan earlier (earlier_runs plan later earlier (subst (Run plan) is run));
       slow = slow;
+      only = only_run plan h sound run complete ordered slow;
       spelled = spelled (runs_have_spellings plan h run);
     }
 

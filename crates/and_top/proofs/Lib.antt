@@ -5,3 +5,4 @@ pub mod PlansLemmas
 pub mod Puts
 pub mod Refusing
 pub mod Headlines
+pub mod Only

@@ -49,10 +49,10 @@ part-first n a b old new first =
 pub tells-after : (n m : ℕ) (a b : List ℕ) (old mid new : Stream) → Wrote n a old mid → old.faults ≤ mid.faults → Tells m b mid new → Tells (n + m) (a ++ b) old new
 tells-after n m a b old mid new first grows told =
     elim told [
-      inl all ↦ inl (wrote-then n m a b old mid new first grows all)
-    | inr rest ↦
-      let (k, few, part) = rest in
-      inr (n + k, omega (arith, few), part-after n k a b old mid new first grows part)
+      | inl all ↦ inl (wrote-then n m a b old mid new first grows all)
+      | inr rest ↦
+          let (k, few, part) = rest in
+          inr (n + k, omega (arith, few), part-after n k a b old mid new first grows part)
     ]
 
 pub tells-first : (n m : ℕ) (a b : List ℕ) (old new : Stream) → n ≤ m → WrotePart n a old new → Tells m (a ++ b) old new

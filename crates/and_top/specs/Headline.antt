@@ -21,8 +21,8 @@ use Rattle.and_top.specs.Words.{Named}
 
 -- The history, whose newest event is first, is the run of the plan to its end in the plain order. Each packet of the plan has exactly one
 -- fate, for its reason, by decisions no older than what was installed when it was taken; and after each event the packets
--- injected so far are as many as the fates, the queued and the held together. No decision comes from a flow cache.
--- Each event has a spelling: no other history whose events have one has this trace
+-- injected so far are as many as the fates, the queued and the held together. No decision comes from a flow cache. No other history is such
+-- a run, so that the plan says what is written. Each event has a spelling: no other history whose events have one has this trace
 pub record IsReplay (plan : Plan) (h : List Event) : Type 0 where
   pub run : Run plan h
   pub complete : IsComplete plan h
@@ -32,6 +32,7 @@ pub record IsReplay (plan : Plan) (h : List Event) : Type 0 where
   pub fresh : (packet : ℕ) → Fresh plan h packet
   pub accounted : (later earlier : List Event) → h ≡ later ++ earlier → IsAccounted plan earlier
   pub slow : AreSlow h
+  pub only : (other : List Event) → Run plan other → IsComplete plan other → IsInPlainOrder plan other → AreSlow other → other ≡ h
   pub spelled : IsSpelled h
 
 -- both files as they were when the call began, where they are told; what they plan is sound and what the program runs so far, and it was run

@@ -8,4 +8,5 @@ pub mod Deciding
 pub mod Ended
 pub mod Touched
 pub mod Unique
+pub mod Placing
 pub mod Registering

@@ -19,6 +19,7 @@ pub mod Homes
 pub mod Deletions
 pub mod Steps
 pub mod Once
+pub mod Placements
 pub mod Registers
 pub mod Numbered
 pub mod Sorting

@@ -1,5 +1,5 @@
 -- Programmes of nodes: log entries and offload orders, the oldest first. Places count from 1.
-use Rattle.std.specs.Prelude.{ℕ, zero, suc, ◌-◌, ◌==◌, ◌&&◌, ◌||◌, not, Bool, false, nat_lt, if◌then◌else◌, List, [], ◌∷◌, take, slice_get, Option, Some, None, option_map}
+use Rattle.std.specs.Prelude.{ℕ, zero, suc, ◌-◌, ◌==◌, ◌&&◌, ◌||◌, not, Bool, false, nat_lt, if◌then◌else◌, List, [], ◌∷◌, take, slice_get, Option, Some, None, option_map, position}
 use Rattle.std.specs.List.{list_any, find}
 use Rattle.and_policy.specs.declared.packet.Tuple.{Tuple}
 use Rattle.and_policy.specs.declared.entry.Entry.{Entry}
@@ -30,6 +30,15 @@ prefix p j = entries (take j p)
 -- the network of the VM, as its entry among k added it
 abbrev pub net_of_vm : List Entry → ℕ → Option ℕ
 net_of_vm k vm = option_map (λ v. v.net) (find (λ v. v.number == vm) (added k))
+
+-- the entry adds the VM
+abbrev pub adds : ℕ → Entry → Bool
+adds vm (AddVm v net mac ip host) = v == vm
+adds vm _ = false
+
+-- the number of the VM's AddVm entry among k, from 1
+abbrev pub added_at : List Entry → ℕ → Option ℕ
+added_at k vm = option_map suc (position (adds vm) k)
 
 -- the network of an entry: the one that it names, or that of its VM. The peer of a route does not count
 abbrev pub net_of : List Entry → Entry → Option ℕ

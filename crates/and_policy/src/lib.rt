@@ -13,6 +13,7 @@ mod log;
 mod memory;
 mod numbered;
 mod packet;
+mod placements;
 pub mod plain;
 mod port;
 mod put;
@@ -29,7 +30,8 @@ pub use entry::{Entry, EntryFault, FlowKey, Op, Order, Prefix, Route, Rule, Side
 pub use log::Log;
 pub use memory::NoMemory;
 pub use packet::{Fields, Skip, Tuple};
+pub use placements::{Addition, Placements};
 pub use port::{Port, UsageKey};
-pub use register::{Register, Residence, Seat};
+pub use register::{Register, Residence};
 pub use tables::{Batch, Tables};
 pub use underlay::{flow_hash, host_address, redirect_address, route_address};

@@ -1,5 +1,5 @@
 //! Keys and values put where there is room.
-ghost use Rattle.std.specs.Prelude.{◌≡◌, ◌<◌, ◌+◌, Some, is_some, if◌then◌else◌, true};
+ghost use Rattle.std.specs.Prelude.{◌≡◌, ◌<◌, ◌≤◌, ◌+◌, Some, is_some, if◌then◌else◌, true};
 ghost use Rattle.std.specs.HashMap as hash;
 ghost use Rattle.std.specs.HashMap.{hash_map_len};
 ghost use Rattle.std.specs.HashSet as bag;
@@ -14,6 +14,7 @@ pub(crate) fn put<K: Eq + Hash + Drop, V: Drop>(map: &mut HashMap<K, V>, key: K,
     ensures updates { hash.Updates K.eq map.old map.new key (Some value) }
     ensures len { let was = is_some (hash.get K.eq map.old key) in
         hash_map_len map.new ≡ hash_map_len map.old + (if was then 0 else 1) }
+    ensures spare { hash.spare map.old ≤ hash.spare map.new + 1 }
 {
     let put: Result<_, _> = map.insert(key, value);
     let _ = put.unwrap();

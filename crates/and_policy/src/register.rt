@@ -2,18 +2,10 @@
 
 use crate::entry::Entry;
 use crate::memory::NoMemory;
+use crate::placements::Placements;
 use crate::put::put;
 use std::alloc::Global;
 use std::collections::HashMap;
-
-/// The network of a VM that was added, and the host to which the last entry brought it.
-#[derive(Debug, Clone, Copy, PartialEq, Eq)]
-pub struct Seat {
-    /// The network.
-    pub net: u32,
-    /// The host.
-    pub host: u32,
-}
 
 /// The network and the addresses of a live VM.
 #[derive(Debug, Clone, Copy, PartialEq, Eq)]
@@ -31,8 +23,10 @@ pub struct Residence {
 /// It keeps no entries: contracts say of a register and a list of entries that the one is of the other (`IsRegister`).
 #[derive(Drop)]
 pub struct Register {
-    /// By number: each VM that was added, removed since or not.
-    pub(crate) seats: HashMap<u32, Seat>,
+    /// The VMs that were added, removed since or not.
+    pub(crate) placements: Placements,
+    /// How many these are.
+    pub(crate) count: u32,
     /// By number: each live VM.
     pub(crate) residents: HashMap<u32, Residence>,
     /// By network and address: the live VM.
@@ -45,32 +39,34 @@ impl Register {
     ghost use Rattle.std.specs.Prelude.{◌≡◌, ◌<◌, ◌==◌, ◌∷◌, ◌++◌, ℕ, List, [], Option, Some, None, OnOk, option_map, length, nat_eq};
     ghost use Rattle.std.specs.List.{find, list_any};
     ghost use Rattle.std.specs.HashMap as hash;
-    ghost use Rattle.and_policy.specs.Registers.{IsRegister, IsSameRegister, HasRoom, is_numbered, has_mac, has_address, residence_of};
+    ghost use Rattle.and_policy.specs.Placements.{ArePlacements};
+    ghost use Rattle.and_policy.specs.Registers.{AreLive, IsRegister, IsSameRegister, HasLiveRoom, HasRoom, is_numbered, has_mac, has_address, residence_of};
     ghost use Rattle.and_policy.specs.Fitting.{fits};
     ghost use Rattle.and_policy.specs.Logs as logs;
     ghost use Rattle.and_policy.specs.Owners as owners;
     ghost use Rattle.and_policy.specs.Programmes as programmes;
     ghost use Rattle.and_policy.specs.declared.entry.Entry.{Entry};
-    ghost use Rattle.and_policy.specs.declared.entry.Entry.TheVariants.{AddVm, RemoveVm, Place};
+    ghost use Rattle.and_policy.specs.declared.entry.Entry.TheVariants.{AddVm, RemoveVm};
 
     /// The register of no entries. It takes no memory.
     pub fn new(alloc: Global) -> Register
         ensures { IsRegister result [] }
     {
         Register {
-            seats: HashMap::new(alloc),
+            placements: Placements::new(alloc),
+            count: 0,
             residents: HashMap::new(alloc),
             owners: HashMap::new(alloc),
             macs: HashMap::new(alloc),
         }
     }
 
-    // Makes room for one VM more in each map.
+    // Makes room for one entry more in each map.
     fn reserve(&mut self) -> Result<(), NoMemory>
         ensures same { IsSameRegister self.old self.new }
         ensures ok { OnOk result (HasRoom self.new) }
     {
-        self.seats.reserve(1).map_err(|_| NoMemory)?;
+        self.placements.room(1)?;
         self.residents.reserve(1).map_err(|_| NoMemory)?;
         self.owners.reserve(1).map_err(|_| NoMemory)?;
         self.macs.reserve(1).map_err(|_| NoMemory)?;
@@ -89,13 +85,13 @@ impl Register {
         self.reserve()
     }
 
-    // Adds a VM.
-    fn add_vm(&mut self, vm: u32, net: u32, mac: u64, ip: u32, host: u32)
-        requires { HasRoom self.old }
-        ensures { (hosts : Option ℕ) (k : List Entry) → fits hosts k (AddVm vm net mac ip host) ≡ None
-            → IsRegister self.old k → IsRegister self.new (k ++ AddVm vm net mac ip host ∷ []) }
+    // Adds a VM, whose placement is there.
+    fn add_vm(&mut self, vm: u32, net: u32, mac: u64, ip: u32)
+        requires { HasLiveRoom self.old }
+        ensures { (host : ℕ) (hosts : Option ℕ) (k : List Entry) → fits hosts k (AddVm vm net mac ip host) ≡ None
+            → ArePlacements self.old.placements (k ++ AddVm vm net mac ip host ∷ []) → AreLive self.old k → IsRegister self.new (k ++ AddVm vm net mac ip host ∷ []) }
     {
-        put(&mut self.seats, vm, Seat { net, host });
+        self.count = self.count.saturating_add(1);
         put(&mut self.residents, vm, Residence { net, mac, ip });
         put(&mut self.owners, (net, ip), vm);
         put(&mut self.macs, mac, vm);
@@ -104,7 +100,7 @@ impl Register {
     // Takes a VM away.
     fn remove_vm(&mut self, vm: u32)
         ensures { (hosts : Option ℕ) (k : List Entry) → fits hosts k (RemoveVm vm) ≡ None
-            → IsRegister self.old k → IsRegister self.new (k ++ RemoveVm vm ∷ []) }
+            → ArePlacements self.old.placements (k ++ RemoveVm vm ∷ []) → AreLive self.old k → IsRegister self.new (k ++ RemoveVm vm ∷ []) }
     {
         match self.residents.remove(&vm) {
             Some(residence) => {
@@ -115,22 +111,22 @@ impl Register {
         }
     }
 
-    // Brings a VM to a host.
-    fn place_vm(&mut self, vm: u32, host: u32)
-        requires { HasRoom self.old }
-        ensures { (hosts : Option ℕ) (k : List Entry) → fits hosts k (Place vm host) ≡ None
-            → IsRegister self.old k → IsRegister self.new (k ++ Place vm host ∷ []) }
+    // What an entry says of live VMs, whose placements are there.
+    fn note(&mut self, entry: &Entry)
+        requires { HasLiveRoom self.old }
+        ensures { (hosts : Option ℕ) (k : List Entry) → fits hosts k entry.now ≡ None
+            → ArePlacements self.old.placements (k ++ entry.now ∷ []) → AreLive self.old k → IsRegister self.new (k ++ entry.now ∷ []) }
     {
-        match self.seats.get(&vm).copied() {
-            Some(seat) => put(
-                &mut self.seats,
+        match *entry {
+            Entry::AddVm {
                 vm,
-                Seat {
-                    net: seat.net,
-                    host,
-                },
-            ),
-            None => {}
+                net,
+                mac,
+                ip,
+                ..
+            } => self.add_vm(vm, net, mac, ip),
+            Entry::RemoveVm { vm } => self.remove_vm(vm),
+            _ => {}
         }
     }
 
@@ -140,52 +136,36 @@ impl Register {
         ensures { (hosts : Option ℕ) (k : List Entry) → fits hosts k entry.now ≡ None
             → IsRegister self.old k → IsRegister self.new (k ++ entry.now ∷ []) }
     {
-        match *entry {
-            Entry::AddVm {
-                vm,
-                net,
-                mac,
-                ip,
-                host,
-            } => self.add_vm(vm, net, mac, ip, host),
-            Entry::RemoveVm { vm } => self.remove_vm(vm),
-            Entry::Place { vm, host } => self.place_vm(vm, host),
-            _ => {}
-        }
+        self.placements.append(entry);
+        self.note(entry);
     }
 
     /// Whether the VM was added, removed since or not.
     pub fn was_added(&self, vm: u32) -> bool
         ensures { (k : List Entry) → IsRegister self.now k → result ≡ list_any (is_numbered vm) (logs.added k) }
     {
-        self.seats.contains_key(&vm)
+        self.placements.net(vm).is_some()
     }
 
     /// How many VMs were added.
     pub fn added_count(&self) -> usize
         ensures { (k : List Entry) → IsRegister self.now k → result ≡ length (logs.added k) }
     {
-        self.seats.len()
+        self.count as usize
     }
 
     /// The network to which the VM was added, removed since or not.
     pub fn added_net(&self, vm: u32) -> Option<u32>
         ensures { (k : List Entry) → IsRegister self.now k → result ≡ programmes.net_of_vm k vm }
     {
-        match self.seats.get(&vm) {
-            Some(seat) => Some(seat.net),
-            None => None,
-        }
+        self.placements.net(vm)
     }
 
     /// The host to which the last entry brought the VM, removed since or not.
     pub fn place(&self, vm: u32) -> Option<u32>
         ensures { (k : List Entry) → IsRegister self.now k → result ≡ owners.place k vm }
     {
-        match self.seats.get(&vm) {
-            Some(seat) => Some(seat.host),
-            None => None,
-        }
+        self.placements.place(vm)
     }
 
     /// The network and the addresses of a live VM.

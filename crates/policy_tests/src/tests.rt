@@ -3,8 +3,8 @@ ghost use Rattle.std.specs.Prelude.{◌≡◌, length};
 
 use and_policy::{
     Batch, Dest, Entry, EntryFault, Exit, Landing, Leaving, Located, Log, Name, NoMemory, Op,
-    Order, Prefix, Route, Routed, Rule, Side, Tables, Target, Tuple, flow_hash, host_address,
-    plain, redirect_address, route_address,
+    Order, Placements, Prefix, Route, Routed, Rule, Side, Tables, Target, Tuple, flow_hash,
+    host_address, plain, redirect_address, route_address,
 };
 use std::alloc::Global;
 use std::test::Fail;
@@ -59,6 +59,15 @@ const B: Entry = Entry::AddVm {
 
 const RULE: Entry = Entry::AddRule { net: 7, rule: HTTP };
 
+/// The VM of `A` once more, elsewhere: no log has both.
+const AGAIN: Entry = Entry::AddVm {
+    vm: 0,
+    net: 8,
+    mac: 3,
+    ip: 0x0a00_0003,
+    host: 2,
+};
+
 #[test]
 fn flow_hashes(rt: HostRuntime) {
     assert_eq!(rt; flow_hash(&tcp(0x0a00_0002, 4096)), 16821);
@@ -71,6 +80,24 @@ fn underlay_addresses(rt: HostRuntime) {
     assert_eq!(rt; host_address(1), 0xac10_0101);
     assert_eq!(rt; route_address(0), 0xac11_0001);
     assert_eq!(rt; redirect_address(7), 0xac11_0702);
+}
+
+#[test]
+fn placements_where_entries_do_not_fit(rt: HostRuntime) -> Result<(), Fail> {
+    let mut placements = Placements::new(rt.alloc());
+    let lost = Entry::Place { vm: 1, host: 3 };
+    for entry in &[NET, A, AGAIN, lost, Entry::RemoveVm { vm: 0 }] {
+        placements.room(1)?;
+        placements.append(entry);
+    }
+    assert_eq!(rt;
+        (placements.net(0), placements.added(0)),
+        (Some(7), Some(2))
+    );
+    assert_eq!(rt; placements.place(0), Some(2));
+    assert_eq!(rt; (placements.net(1), placements.added(1)), (None, None));
+    assert_eq!(rt; placements.place(1), Some(3));
+    Ok(())
 }
 
 // Tables that keep their operations and answer nothing.

@@ -1,14 +1,6 @@
-use Rattle.std.proofs.Common.{◌≡◌, ℕ, ◌∷◌, [], ◌++◌, List, Option, None, sym, subst}
-use Rattle.and_policy.specs.declared.entry.Entry.{Entry}
-use Rattle.and_policy.specs.Fitting.{fits}
-use Rattle.and_policy.specs.Registers.{IsRegister}
-use Rattle.and_policy.proofs.Registering.{register-other}
+use Rattle.and_policy.proofs.Registering.{replaced}
 use Rattle.and_policy.proofs.register.Register.append.Goals as goal
 
-pub returns-in-RemoveVm : goal.returns-in-RemoveVm
-returns-in-RemoveVm c =
-    subst (λ (e : Entry). (hosts : Option ℕ) (k : List Entry) → fits hosts k e ≡ None → IsRegister c.args.self.now k → IsRegister c.remove_vm.new.self (k ++ e ∷ []))
-    (sym c.in-RemoveVm.is) c.remove_vm.ensures
-
-pub returns-in_default : goal.returns-in_default
-returns-in_default c = λ hosts k fit is. register-other c.args.self.now k c.args.entry.now c.in_default.not-AddVm c.in_default.not-RemoveVm c.in_default.not-Place is
+pub returns : goal.returns
+returns c = λ hosts k fit is.
+    c.note.ensures hosts k fit (c.append.ensures.placements k is.placements) (replaced c.args.self.now c.append.new.self k is.live)

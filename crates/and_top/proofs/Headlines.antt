@@ -25,7 +25,7 @@ use Rattle.and_top.specs.declared.answers.Which.TheVariants as which
 use Rattle.and_top.specs.declared.answers.Fault.{Fault}
 use Rattle.and_top.specs.declared.answers.Fault.TheVariants as faults
 use Rattle.and_top.specs.Answers.{Answers, Done, Stands, Writes, trace_name}
-use Rattle.and_top.specs.Headline.{IsReplay, Ran}
+use Rattle.and_top.specs.Headline.{IsReplay, IsWholeRun, Ran}
 use Rattle.and_top.specs.Inputs.{ScenarioAt, CaptureAt}
 use Rattle.and_top.specs.Outside.{Calls, Stays}
 use Rattle.and_top.proofs.Failing.{calls_three}
@@ -42,19 +42,26 @@ unfolding Run
 earlier_runs plan [] earlier run = run
 earlier_runs plan (e ∷ later) earlier run = earlier_runs plan later earlier run.0
 
-pub is_replay : (plan : Plan) (h : List Event) → IsSound plan → Run plan h → IsComplete plan h → IsInPlainOrder plan h → AreSlow h → (HaveSpellings h → IsSpelled h) → IsReplay plan h
-is_replay plan h sound run complete ordered slow spelled =
+-- what every run of a sound plan to its end has
+pub is_whole_run : (plan : Plan) (h : List Event) → IsSound plan → Run plan h → IsComplete plan h → (HaveSpellings h → IsSpelled h) → IsWholeRun plan h
+is_whole_run plan h sound run complete spelled =
     record {
       run = run;
       complete = complete;
-      ordered = ordered;
       fates = one_fate plan h sound run complete;
       just = just plan h sound run;
       fresh = fresh plan h run;
       accounted = λ later earlier is. accounted plan earlier (earlier_runs plan later earlier (subst (Run plan) is run));
+      spelled = spelled (runs_have_spellings plan h run);
+    }
+
+pub is_replay : (plan : Plan) (h : List Event) → IsSound plan → Run plan h → IsComplete plan h → IsInPlainOrder plan h → AreSlow h → (HaveSpellings h → IsSpelled h) → IsReplay plan h
+is_replay plan h sound run complete ordered slow spelled =
+    record {
+      whole = is_whole_run plan h sound run complete spelled;
+      ordered = ordered;
       slow = slow;
       only = only_run plan h sound run complete ordered slow;
-      spelled = spelled (runs_have_spellings plan h run);
     }
 
 -- the texts of a run of the plan

@@ -19,21 +19,26 @@ use Rattle.and_top.specs.Inputs.{ScenarioAt, CaptureAt}
 use Rattle.and_outside.specs.Disk.{Disk}
 use Rattle.and_top.specs.Words.{Named}
 
--- The history, whose newest event is first, is the run of the plan to its end in the plain order. Each packet of the plan has exactly one
--- fate, for its reason, by decisions no older than what was installed when it was taken; and after each event the packets
--- injected so far are as many as the fates, the queued and the held together. No decision comes from a flow cache. No other history is such
--- a run, so that the plan says what is written. Each event has a spelling: no other history whose events have one has this trace
-pub record IsReplay (plan : Plan) (h : List Event) : Type 0 where
+-- What every command says of its run, in whatever order the actors took their turns. The history, whose newest event is first, is a run of the plan to its end.
+-- Each packet of the plan has exactly one fate, for its reason, by decisions no older than what was installed when it was taken; and after each event the
+-- packets injected so far are as many as the fates, the queued and the held together. Each event has a spelling: no other history whose events have one has
+-- this trace
+pub record IsWholeRun (plan : Plan) (h : List Event) : Type 0 where
   pub run : Run plan h
   pub complete : IsComplete plan h
-  pub ordered : IsInPlainOrder plan h
   pub fates : HasOneFate plan h
   pub just : (packet : ℕ) → Just plan h packet
   pub fresh : (packet : ℕ) → Fresh plan h packet
   pub accounted : (later earlier : List Event) → h ≡ later ++ earlier → IsAccounted plan earlier
+  pub spelled : IsSpelled h
+
+-- What `replay` says besides: of the actors that may act the first one acts, and no decision comes from a flow cache. No other history is such a run, so that
+-- the plan says what is written
+pub record IsReplay (plan : Plan) (h : List Event) : Type 0 where
+  pub whole : IsWholeRun plan h
+  pub ordered : IsInPlainOrder plan h
   pub slow : AreSlow h
   pub only : (other : List Event) → Run plan other → IsComplete plan other → IsInPlainOrder plan other → AreSlow other → other ≡ h
-  pub spelled : IsSpelled h
 
 -- both files as they were when the call began, where they are told; what they plan is sound and what the program runs so far, and it was run
 pub record Ran (names : Named) (files : Disk) : Type 0 where

@@ -61,9 +61,9 @@ net_more plan k (entry_kinds.AddNet net) vm is fit = fit
 net_more plan k (entry_kinds.AddRule net rule) vm is fit = fit
 net_more plan k (entry_kinds.RemoveVm v) vm is fit = absurd is
 net_more plan k (entry_kinds.Place v h) vm is fit = absurd is
-net_more plan k (entry_kinds.DelRule net number) vm is fit = absurd is
-net_more plan k (entry_kinds.AddRoute net r) vm is fit = absurd is
-net_more plan k (entry_kinds.DelRoute net number) vm is fit = absurd is
+net_more plan k (entry_kinds.DelRule net number) vm is fit = fit
+net_more plan k (entry_kinds.AddRoute net r) vm is fit = fit
+net_more plan k (entry_kinds.DelRoute net number) vm is fit = fit
 net_more plan k entry_kinds.Tick vm is fit = absurd is
 
 net_fits : (plan : Plan) (k : List Entry) (vm : ℕ) → All (IsKnown plan) k → net_in k vm ≤ 16777215

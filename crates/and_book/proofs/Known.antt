@@ -12,7 +12,7 @@ use Rattle.and_events.specs.declared.plan.Step.{Step}
 use Rattle.and_events.specs.declared.plan.Step.TheVariants.{Append, Wait, Inject, Finish}
 use Rattle.and_events.specs.declared.plan.Plan.{Plan}
 use Rattle.and_events.specs.Script.{Script, at_start}
-use Rattle.and_events.specs.Sound.{IsSound, StepsFit, IsBuilt, IsBuiltStep, IsBuiltEntry}
+use Rattle.and_events.specs.Sound.{IsSound, StepFits, StepsFit, after_step, sent_after, IsBuilt, IsBuiltStep, IsBuiltEntry}
 use Rattle.and_events.specs.State.{state}
 use Rattle.and_events.specs.Legal.{adds, added_at}
 use Rattle.and_events.specs.Run.{Run}
@@ -25,7 +25,29 @@ abbrev pub IsKnown : Plan → Entry → Type 0
 IsKnown plan (entries.AddNet net) = Unit {0}
 IsKnown plan (entries.AddVm vm net mac ip host) = (vm < length plan.names) × (net ≤ 16777215) × (host < plan.settings.hosts)
 IsKnown plan (entries.AddRule net rule) = rule.sealed ≡ false
+IsKnown plan (entries.DelRule net number) = Unit {0}
+IsKnown plan (entries.AddRoute net route) = Unit {0}
+IsKnown plan (entries.DelRoute net number) = Unit {0}
 IsKnown plan _ = ⊥
+
+known_entry : (plan : Plan) (p : Script) (sent : ℕ) (e : Entry) → StepFits plan p sent (Append e) → IsBuiltEntry e → IsKnown plan e
+known_entry plan p sent (entries.AddNet net) f built = tt
+known_entry plan p sent (entries.AddVm vm net mac ip host) f built = (f.1.0, f.1.1.1, (added_anew plan p vm net mac ip host f.0).1)
+known_entry plan p sent (entries.AddRule net rule) f built = built
+known_entry plan p sent (entries.DelRule net number) f built = tt
+known_entry plan p sent (entries.AddRoute net route) f built = tt
+known_entry plan p sent (entries.DelRoute net number) f built = tt
+known_entry plan p sent (entries.RemoveVm vm) f built = absurd built
+known_entry plan p sent (entries.Place vm host) f built = absurd built
+known_entry plan p sent entries.Tick f built = absurd built
+
+-- one step more of the script
+known_step : (plan : Plan) (p : Script) (sent : ℕ) (step : Step) → StepFits plan p sent step → IsBuiltStep step → All (IsKnown plan) p.log → All (IsKnown plan) (after_step p step).log
+known_step plan p sent (Append e) f built known = All-push (IsKnown plan) p.log e known (known_entry plan p sent e f built)
+known_step plan p sent Wait f built known = known
+known_step plan p sent (Inject i) f built known = known
+known_step plan p sent Finish f built known = absurd f
+known_step plan p sent step f built known = absurd built
 
 known_script : (plan : Plan) (p : Script) (sent : ℕ) (ss : List Step) (n : ℕ) → StepsFit plan p sent ss → All IsBuiltStep ss → All (IsKnown plan) p.log → All (IsKnown plan) (script_after_steps p (take n ss)).log
 known_script plan p sent [] n f built known = absurd f
@@ -34,16 +56,8 @@ known_script plan p sent (Finish ∷ []) (suc zero) f built known = known
 known_script plan p sent (Finish ∷ []) (suc (suc n)) f built known = known
 known_script plan p sent (Finish ∷ other ∷ later) n f built known = absurd f.0
 known_script plan p sent (step ∷ later) zero f built known = known
-known_script plan p sent (Append (entries.AddNet net) ∷ later) (suc n) f built known =
-    known_script plan _ _ later n f.1 (All-tail IsBuiltStep _ later built) (All-push (IsKnown plan) p.log (entries.AddNet net) known tt)
-known_script plan p sent (Append (entries.AddVm vm net mac ip host) ∷ later) (suc n) f built known =
-    known_script plan _ _ later n f.1 (All-tail IsBuiltStep _ later built)
-    (All-push (IsKnown plan) p.log (entries.AddVm vm net mac ip host) known (f.0.1.0, f.0.1.1.1, (added_anew plan p vm net mac ip host f.0.0).1))
-known_script plan p sent (Append (entries.AddRule net rule) ∷ later) (suc n) f built known =
-    known_script plan _ _ later n f.1 (All-tail IsBuiltStep _ later built) (All-push (IsKnown plan) p.log (entries.AddRule net rule) known (All-head IsBuiltStep _ later built))
-known_script plan p sent (Wait ∷ later) (suc n) f built known = known_script plan _ _ later n f.1 (All-tail IsBuiltStep _ later built) known
-known_script plan p sent (Inject i ∷ later) (suc n) f built known = known_script plan _ _ later n f.1 (All-tail IsBuiltStep _ later built) known
-known_script plan p sent (step ∷ later) (suc n) f built known = absurd (All-head IsBuiltStep step later built)
+known_script plan p sent (step ∷ later) (suc n) f built known =
+    known_script plan (after_step p step) (sent_after sent step) later n f.1 (All-tail IsBuiltStep _ later built) (known_step plan p sent step f.0 (All-head IsBuiltStep step later built) known)
 
 pub known_log : (plan : Plan) (h : List Event) → IsSound plan → IsBuilt plan → Run plan h → All (IsKnown plan) (state plan h).programmes.log
 known_log plan h sound built r =
@@ -54,16 +68,8 @@ known_to_end : (plan : Plan) (p : Script) (sent : ℕ) (ss : List Step) → Step
 known_to_end plan p sent [] f built known = absurd f
 known_to_end plan p sent (Finish ∷ []) f built known = subst (All (IsKnown plan)) f.log known
 known_to_end plan p sent (Finish ∷ other ∷ later) f built known = absurd f.0
-known_to_end plan p sent (Append (entries.AddNet net) ∷ later) f built known =
-    known_to_end plan _ _ later f.1 (All-tail IsBuiltStep _ later built) (All-push (IsKnown plan) p.log (entries.AddNet net) known tt)
-known_to_end plan p sent (Append (entries.AddVm vm net mac ip host) ∷ later) f built known =
-    known_to_end plan _ _ later f.1 (All-tail IsBuiltStep _ later built)
-    (All-push (IsKnown plan) p.log (entries.AddVm vm net mac ip host) known (f.0.1.0, f.0.1.1.1, (added_anew plan p vm net mac ip host f.0.0).1))
-known_to_end plan p sent (Append (entries.AddRule net rule) ∷ later) f built known =
-    known_to_end plan _ _ later f.1 (All-tail IsBuiltStep _ later built) (All-push (IsKnown plan) p.log (entries.AddRule net rule) known (All-head IsBuiltStep _ later built))
-known_to_end plan p sent (Wait ∷ later) f built known = known_to_end plan _ _ later f.1 (All-tail IsBuiltStep _ later built) known
-known_to_end plan p sent (Inject i ∷ later) f built known = known_to_end plan _ _ later f.1 (All-tail IsBuiltStep _ later built) known
-known_to_end plan p sent (step ∷ later) f built known = absurd (All-head IsBuiltStep step later built)
+known_to_end plan p sent (step ∷ later) f built known =
+    known_to_end plan (after_step p step) (sent_after sent step) later f.1 (All-tail IsBuiltStep _ later built) (known_step plan p sent step f.0 (All-head IsBuiltStep step later built) known)
 
 -- so is the whole log of the plan
 pub known_plan : (plan : Plan) → IsSound plan → IsBuilt plan → All (IsKnown plan) plan.log
@@ -75,9 +81,9 @@ named plan (entries.AddNet net) vm known is = absurd (cc)
 named plan (entries.AddRule net rule) vm known is = absurd (cc)
 named plan (entries.RemoveVm v) vm known is = absurd known
 named plan (entries.Place v host) vm known is = absurd known
-named plan (entries.DelRule net number) vm known is = absurd known
-named plan (entries.AddRoute net route) vm known is = absurd known
-named plan (entries.DelRoute net number) vm known is = absurd known
+named plan (entries.DelRule net number) vm known is = absurd (cc)
+named plan (entries.AddRoute net route) vm known is = absurd (cc)
+named plan (entries.DelRoute net number) vm known is = absurd (cc)
 named plan entries.Tick vm known is = absurd known
 
 found : (o : Option ℕ) (q : ℕ) → option_map suc o ≡ Some q → (k : ℕ) × (o ≡ Some k)

@@ -48,9 +48,9 @@ after_entry ports (entry_kinds.AddVm vm net mac ip host) built plain = boots por
 after_entry ports (entry_kinds.AddRule net rule) built plain = plain
 after_entry ports (entry_kinds.RemoveVm vm) built plain = absurd built
 after_entry ports (entry_kinds.Place vm host) built plain = absurd built
-after_entry ports (entry_kinds.DelRule net number) built plain = absurd built
-after_entry ports (entry_kinds.AddRoute net route) built plain = absurd built
-after_entry ports (entry_kinds.DelRoute net number) built plain = absurd built
+after_entry ports (entry_kinds.DelRule net number) built plain = plain
+after_entry ports (entry_kinds.AddRoute net route) built plain = plain
+after_entry ports (entry_kinds.DelRoute net number) built plain = plain
 after_entry ports entry_kinds.Tick built plain = absurd built
 
 -- the step of an append, as the state has it

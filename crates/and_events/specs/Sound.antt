@@ -141,6 +141,9 @@ abbrev pub IsBuiltEntry : Entry → Type 0
 IsBuiltEntry (AddNet net) = Unit {0}
 IsBuiltEntry (AddVm vm net mac ip host) = Unit {0}
 IsBuiltEntry (AddRule net rule) = rule.sealed ≡ false
+IsBuiltEntry (DelRule net number) = Unit {0}
+IsBuiltEntry (AddRoute net route) = Unit {0}
+IsBuiltEntry (DelRoute net number) = Unit {0}
 IsBuiltEntry _ = ⊥
 
 abbrev pub IsBuiltStep : Step → Type 0
@@ -150,11 +153,5 @@ IsBuiltStep (Inject i) = Unit {0}
 IsBuiltStep Finish = Unit {0}
 IsBuiltStep _ = ⊥
 
--- the settings that may differ are the hosts; all others are as a scenario has them that names none
-abbrev pub plain_settings : ℕ → Settings
-plain_settings hosts =
-    record { hosts = hosts; gateways = 1; workers = 2; hop_limit = 16; out_queue = 256; wire_queue = 256; seal_queue = 256; threshold = 20000; life = 3 }
-
 pub record IsBuilt (plan : Plan) : Type 0 where
-  pub settings : plan.settings ≡ plain_settings plan.settings.hosts
   pub steps : All IsBuiltStep plan.steps

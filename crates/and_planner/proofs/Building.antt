@@ -58,6 +58,9 @@ item_builds n p item (Some fault) is b = record { steps = b.steps; holds = b.hol
 item_builds n p (items.Entry (entries.AddNet net)) None is b = entry_builds p (entries.AddNet net) tt b
 item_builds n p (items.Entry (entries.AddVm vm net mac ip host)) None is b = entry_builds p (entries.AddVm vm net mac ip host) tt b
 item_builds n p (items.Entry (entries.AddRule net rule)) None is b = entry_builds p (entries.AddRule net rule) (unsealed rule.sealed is) b
+item_builds n p (items.Entry (entries.DelRule net number)) None is b = entry_builds p (entries.DelRule net number) tt b
+item_builds n p (items.Entry (entries.AddRoute net route)) None is b = entry_builds p (entries.AddRoute net route) tt b
+item_builds n p (items.Entry (entries.DelRoute net number)) None is b = entry_builds p (entries.DelRoute net number) tt b
 item_builds n p items.Wait None is b = record { steps = one_more p.steps steps.Wait b.steps tt; holds = b.holds }
 item_builds n p (items.Send wanted) None is b =
     frames_build (min (unwrap_or wanted (length p.frames)) (length p.frames)) (stepped (record p { script = p.script }) [])
@@ -84,7 +87,6 @@ planned_is_built scenario capture is =
     let b : Builds (items_applied scenario.settings 0 scenario.items (nothing_planned capture.frames)) =
     items_build scenario.settings 0 scenario.items (nothing_planned capture.frames) is.items (record { steps = All-nil IsBuiltStep; holds = refl }) in
     record {
-      settings = is.settings;
       steps = one_more (p.steps ++ frees scenario.settings p.script) steps.Finish
           (subst (λ xs. All IsBuiltStep (p.steps ++ xs)) (sym (no_frees scenario.settings p.script b.holds)) (subst (All IsBuiltStep) (sym (append-nil p.steps)) b.steps)) tt;
     }

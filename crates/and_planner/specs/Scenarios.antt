@@ -1,11 +1,11 @@
 -- What each scenario that is read has, so that a plan can be made of it.
-use Rattle.std.specs.Prelude.{◌≡◌, ℕ, ◌<◌, ◌≤◌, length, Bool, true, false, not}
+use Rattle.std.specs.Prelude.{ℕ, ◌<◌, ◌≤◌, length, Bool, true, false, not}
 use Rattle.std.specs.List.{All, AllPass}
 use Rattle.and_policy.specs.declared.entry.Entry.TheVariants as entries
 use Rattle.and_events.specs.declared.plan.Item.{Item}
 use Rattle.and_events.specs.declared.plan.Item.TheVariants as items
 use Rattle.and_events.specs.declared.plan.Scenario.{Scenario}
-use Rattle.and_events.specs.Sound.{AreSettings, IsEntry, IsNoPlace, plain_settings}
+use Rattle.and_events.specs.Sound.{AreSettings, IsEntry, IsNoPlace}
 
 -- the numbers of an item are in their ranges, a VM's is that of a name, and no item places a VM
 abbrev pub IsItem : ℕ → Item → Type 0
@@ -20,17 +20,19 @@ pub record IsScenario (s : Scenario) : Type 0 where
   pub few : length s.items ≤ 65536
   pub items : All (IsItem (length s.names)) s.items
 
--- What the system runs so far, one line a kind: networks, VMs, rules that seal nothing, waits and sends. A kind that is built adds its line here,
+-- What the system runs so far, one line a kind: networks, VMs, rules that seal nothing, routes, waits and sends. A kind that is built adds its line here,
 -- and the last takes the predicate away
 abbrev pub is_built_item : Item → Bool
 is_built_item (items.Entry (entries.AddNet net)) = true
 is_built_item (items.Entry (entries.AddVm vm net mac ip host)) = true
 is_built_item (items.Entry (entries.AddRule net rule)) = not rule.sealed
+is_built_item (items.Entry (entries.DelRule net number)) = true
+is_built_item (items.Entry (entries.AddRoute net route)) = true
+is_built_item (items.Entry (entries.DelRoute net number)) = true
 is_built_item items.Wait = true
 is_built_item (items.Send frames) = true
 is_built_item _ = false
 
--- each item is such, and no setting is given but the number of hosts and one gateway
+-- each item is such
 pub record IsBuiltScenario (s : Scenario) : Type 0 where
-  pub settings : s.settings ≡ plain_settings s.settings.hosts
   pub items : AllPass is_built_item s.items

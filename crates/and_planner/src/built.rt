@@ -2,19 +2,20 @@
 ghost use Rattle.std.specs.Prelude.{◌≡◌, true};
 ghost use Rattle.std.specs.Bool.{OnTrue, OnFalse};
 ghost use Rattle.std.specs.List.{list_all};
-ghost use Rattle.and_events.specs.Sound.{plain_settings};
 ghost use Rattle.and_planner.specs.Scenarios.{is_built_item, IsBuiltScenario};
 
-use and_events::{Item, Scenario, Settings};
+use and_events::{Item, Scenario};
 use and_policy::Entry;
 
-/// Whether the system runs the item so far: a network, a VM, a rule that seals nothing, a send or a wait.
+/// Whether the system runs the item so far: a network, a VM, a rule that seals nothing, a route, a send or a wait.
 fn is_built_item(item: &Item) -> bool
     ensures { result ≡ is_built_item item.now }
 {
     match *item {
         Item::Entry(Entry::AddNet { .. }) | Item::Entry(Entry::AddVm { .. }) => true,
         Item::Entry(Entry::AddRule { rule, .. }) => !rule.sealed,
+        Item::Entry(Entry::DelRule { .. }) => true,
+        Item::Entry(Entry::AddRoute { .. }) | Item::Entry(Entry::DelRoute { .. }) => true,
         Item::Wait | Item::Send { .. } => true,
         _ => false,
     }
@@ -27,30 +28,11 @@ fn are_built(items: &[Item]) -> bool
     items.iter().all(|item| is_built_item(item))
 }
 
-/// Whether the settings are those of a scenario that gives the number of its hosts, one gateway, and no others.
-fn are_plain(settings: &Settings) -> bool
-    ensures plain { OnTrue result (settings.now ≡ plain_settings settings.now.hosts) }
-    ensures other { OnFalse result (settings.now ≡ plain_settings settings.now.hosts → ⊥) }
-{
-    let plain = Settings {
-        hosts: settings.hosts,
-        gateways: 1,
-        workers: 2,
-        hop_limit: 16,
-        out_queue: 256,
-        wire_queue: 256,
-        seal_queue: 256,
-        threshold: 20_000,
-        life: 3,
-    };
-    *settings == plain
-}
-
 /// Whether the system can run the scenario so far. What it plans is then built.
 #[tactic(auto, using(crate::proofs::Building::all_built, crate::proofs::Building::all_are_built))]
 pub fn is_built(scenario: &Scenario) -> bool
     ensures built { OnTrue result (IsBuiltScenario scenario.now) }
     ensures other { OnFalse result (IsBuiltScenario scenario.now → ⊥) }
 {
-    are_plain(&scenario.settings) && are_built(scenario.items.as_slice())
+    are_built(scenario.items.as_slice())
 }

@@ -1,65 +1,71 @@
--- How the tables of an index follow one entry more, and what they say.
-use Rattle.std.proofs.Common.{◌≡◌, ℕ, Bool, true, false, List, [], ◌∷◌, ◌++◌, nat_eq, cond, unwrap_or, refl, ap, sym, ◌∙◌, append-nil}
-use Rattle.std.specs.Prelude.{if◌then◌else◌, ◌==◌}
+-- How an index follows one entry more, and what its tables say.
+use Rattle.std.proofs.Common.{◌≡◌, ℕ, ◌-◌, ◌<◌, ◌≤◌, ◌^◌, Bool, true, false, List, [], ◌∷◌, ◌++◌, length, map, refl, ap, sym, ◌∙◌, subst, arith, Option, Some, None}
+use Rattle.std.specs.Prelude.{if◌then◌else◌}
 use Rattle.std.specs.List.{All}
-use Rattle.std.specs.HashMap as hash
-use Rattle.std.specs.HashMap.{HashMap}
-use Rattle.std.specs.declared.hash.FoldHasher.{FoldHasher}
-use Rattle.std.specs.declared.hash.BuildHasherDefault.{BuildHasherDefault}
-use Rattle.std.proofs.lemmas.Bool.{eqb-true}
-use Rattle.std.proofs.lemmas.List.Elements.{All-head, All-tail}
+use Rattle.std.proofs.lemmas.List.{length-map, map-append}
+use Rattle.std.proofs.lemmas.List.Elements.{All-push}
 use Rattle.and_policy.specs.declared.entry.Entry.{Entry}
-use Rattle.and_policy.specs.declared.entry.Entry.TheVariants.{AddNet, AddVm, RemoveVm, Place, AddRule, DelRule, AddRoute, DelRoute, Tick}
-use Rattle.and_policy.specs.declared.entry.Rule.{Rule}
-use Rattle.and_policy.specs.declared.decision.Name.TheVariants as names
-use Rattle.and_policy.specs.Logs.{rules, routes}
-use Rattle.and_policy.specs.Owners.{owner_place, routed, routed_at}
-use Rattle.and_policy.proofs.Appends.{rules-net, rules-vm, rules-rule}
+use Rattle.and_policy.specs.declared.entry.Entry.TheVariants as entry_kinds
+use Rattle.and_policy.specs.declared.entry.Op.{Op}
+use Rattle.and_policy.specs.declared.entry.Op.TheVariants as ops
+use Rattle.and_policy.specs.Fitting.{fits, IsLog}
+use Rattle.and_policy.specs.Programmes.{entries}
+use Rattle.and_policy.proofs.Logging.{log-push}
 use Rattle.and_events.specs.Sound.{IsBuiltEntry}
-use Rattle.and_replay.specs.Indexes.{AreRules}
+use Rattle.and_replay.specs.declared.index.Index.{Index}
+use Rattle.and_replay.specs.Indexes.{IsIndex, ops_of}
 
-abbrev Table : Type 0 → Type 0 → Type 0
-Table K X = HashMap K X (BuildHasherDefault FoldHasher)
+pub entries_of : (k : List Entry) → entries (ops_of k) ≡ k
+entries_of [] = refl
+entries_of (e ∷ k) = ap (λ ks. e ∷ ks) (entries_of k)
+
+-- ---- an entry that fits with a number of hosts fits without one
+
+third_out : {F : Type 0} (a b c : Bool) (f g h : F) (rest : Option F) → (if a then Some f else (if b then Some g else (if c then Some h else rest))) ≡ None
+    → (if a then Some f else (if b then Some g else rest)) ≡ None
+third_out true b c f g h rest e = absurd (cc)
+third_out false true c f g h rest e = absurd (cc)
+third_out false false true f g h rest e = absurd (cc)
+third_out false false false f g h rest e = e
+
+second_out : {F : Type 0} (a b : Bool) (f g : F) (rest : Option F) → (if a then Some f else (if b then Some g else rest)) ≡ None → (if a then Some f else rest) ≡ None
+second_out true b f g rest e = absurd (cc)
+second_out false true f g rest e = absurd (cc)
+second_out false false f g rest e = e
+
+anywhere : (hosts : ℕ) (k : List Entry) (e : Entry) → fits (Some hosts) k e ≡ None → fits None k e ≡ None
+anywhere hosts k (entry_kinds.AddVm vm net mac ip host) f = third_out _ _ _ _ _ _ _ f
+anywhere hosts k (entry_kinds.Place vm host) f = second_out _ _ _ _ _ f
+anywhere hosts k e f = f
 
 -- ---- one entry more
 
-grown : (new at_net at_q : List Rule) (here : Bool) (rule : Rule) → (here ≡ true → at_net ≡ at_q) → new ≡ cond here (at_net ++ rule ∷ []) at_q
-    → new ≡ at_q ++ (if here then rule ∷ [] else [])
-grown new at_net at_q true rule a b = b ∙ ap (λ xs. xs ++ rule ∷ []) (a refl)
-grown new at_net at_q false rule a b = b ∙ sym (append-nil at_q)
+pub index_more : (old new : Index) (e : Entry) (hosts : ℕ) (k : List Entry) → IsBuiltEntry e → new.host.ops ≡ old.host.ops ++ ops.Entry e ∷ [] → new.gateway ≡ old.gateway ++ ops.Entry e ∷ []
+    → fits (Some hosts) k e ≡ None → IsIndex old k → IsIndex new (k ++ e ∷ [])
+index_more old new e hosts k built host gateway fit is =
+    let more : List Op → List Op = λ (p : List Op). p ++ ops.Entry e ∷ [] in
+    let longer = sym (map-append (λ (x : Entry). ops.Entry x) k (e ∷ [])) in
+    record {
+      built = All-push IsBuiltEntry k e is.built built;
+      log = log-push None k e is.log (anywhere hosts k e fit);
+      host = host ∙ (ap more is.host ∙ longer);
+      gateway = gateway ∙ (ap more is.gateway ∙ longer);
+    }
 
-pub rules_more : (old new : Table ℕ (List Rule)) (k : List Entry) (net : ℕ) (rule : Rule)
-    → ((q : ℕ) → unwrap_or (hash.get nat_eq new q) [] ≡ cond (nat_eq net q) (unwrap_or (hash.get nat_eq old net) [] ++ rule ∷ []) (unwrap_or (hash.get nat_eq old q) []))
-    → AreRules old k → AreRules new (k ++ AddRule net rule ∷ [])
-rules_more old new k net rule put are q =
-    rw (rules-rule k net rule q) (grown _ (unwrap_or (hash.get nat_eq old net) []) (unwrap_or (hash.get nat_eq old q) []) (nat_eq net q) rule (λ e. ap (λ n. unwrap_or (hash.get nat_eq old n) []) (eqb-true net q e)) (put q)
-    ∙ ap (λ xs. xs ++ (if net == q then rule ∷ [] else [])) (are q))
+-- there is room in the tables for an entry that is due
+pub few_ops : (p : List Op) (k : List Entry) (n : ℕ) → p ≡ ops_of k → length k < n → n ≤ 262144 → length p < 2 ^ 32 - 1
+few_ops p k n is less few = omega (arith, ap length is, length-map k (λ (e : Entry). ops.Entry e), less, few)
 
-pub rules_other : (k : List Entry) (e : Entry) (q : ℕ) → IsBuiltEntry e → ((net : ℕ) (rule : Rule) → e ≡ AddRule net rule → ⊥) → rules k q ≡ rules (k ++ e ∷ []) q
-rules_other k (AddNet net) q h b = rw (rules-net k net q) refl
-rules_other k (AddVm vm net mac ip host) q h b = rw (rules-vm k vm net mac ip host q) refl
-rules_other k (AddRule net rule) q h b = absurd (b net rule refl)
-rules_other k (RemoveVm vm) q h b = absurd h
-rules_other k (Place vm host) q h b = absurd h
-rules_other k (DelRule net number) q h b = absurd h
-rules_other k (AddRoute net route) q h b = absurd h
-rules_other k (DelRoute net number) q h b = absurd h
-rules_other k Tick q h b = absurd h
+-- ---- the entries among its operations are the log
 
--- ---- routes and owners
+pub of_host : (p : Index) (k : List Entry) → IsIndex p k → entries p.host.ops ≡ k
+of_host p k is = ap entries is.host ∙ entries_of k
 
-pub no_routes : (k : List Entry) (net : ℕ) → All IsBuiltEntry k → routes k net ≡ []
-no_routes [] net all = refl
-no_routes (AddRoute n route ∷ later) net all = absurd (All-head IsBuiltEntry (AddRoute n route) later all)
-no_routes (AddNet n ∷ later) net all = no_routes later net (All-tail IsBuiltEntry _ later all)
-no_routes (AddVm vm n mac ip host ∷ later) net all = no_routes later net (All-tail IsBuiltEntry _ later all)
-no_routes (AddRule n rule ∷ later) net all = no_routes later net (All-tail IsBuiltEntry _ later all)
-no_routes (RemoveVm vm ∷ later) net all = no_routes later net (All-tail IsBuiltEntry _ later all)
-no_routes (Place vm host ∷ later) net all = no_routes later net (All-tail IsBuiltEntry _ later all)
-no_routes (DelRule n number ∷ later) net all = no_routes later net (All-tail IsBuiltEntry _ later all)
-no_routes (DelRoute n number ∷ later) net all = no_routes later net (All-tail IsBuiltEntry _ later all)
-no_routes (Tick ∷ later) net all = no_routes later net (All-tail IsBuiltEntry _ later all)
+pub of_gateway : (p : Index) (k : List Entry) → IsIndex p k → entries p.gateway ≡ k
+of_gateway p k is = ap entries is.gateway ∙ entries_of k
 
--- without routes a packet stays in its network
-pub stays : (k : List Entry) (net address : ℕ) → All IsBuiltEntry k → routed k net address ≡ routed_at names.Implied net (owner_place k net address)
-stays k net address all = rw (no_routes k net all)
+pub host_log : (p : Index) (k : List Entry) → IsIndex p k → IsLog None (entries p.host.ops)
+host_log p k is = subst (IsLog None) (sym (of_host p k is)) is.log
+
+pub gateway_log : (p : Index) (k : List Entry) → IsIndex p k → IsLog None (entries p.gateway)
+gateway_log p k is = subst (IsLog None) (sym (of_gateway p k is)) is.log

@@ -30,11 +30,8 @@ use Rattle.and_events.specs.State.{State, state, start, after, word_of, programm
 use Rattle.and_laws.proofs.Rows.{replicate_at}
 use Rattle.and_laws.proofs.Sizes.{nodes as nodes_of}
 use Rattle.and_book.proofs.Known.{built_step, built_entry}
-use Rattle.and_replay.specs.Indexes.{leaving_hover}
-
--- the log as operations
-abbrev pub ops_of : List Entry → List Op
-ops_of k = map (λ (e : Entry). ops.Entry e) k
+use Rattle.and_replay.specs.Indexes.{leaving_hover, ops_of}
+use Rattle.and_replay.proofs.Indexing.{entries_of}
 
 pub record IsPlainLog (p : Programmes) : Type 0 where
   pub built : All IsBuiltEntry p.log
@@ -89,10 +86,6 @@ programme_is plan h node built r is =
     (plain_log plan h built r).same (node_place plan.settings node) (omega (arith, place_within plan.settings node is, (nodes_of plan h).ops))
 
 -- ---- what a whole programme of log entries says
-
-entries_of : (k : List Entry) → entries (ops_of k) ≡ k
-entries_of [] = refl
-entries_of (e ∷ k) = ap (λ ks. e ∷ ks) (entries_of k)
 
 pub whole_prefix : (p : List Op) (k : List Entry) (at : ℕ) → p ≡ ops_of k → at ≡ length p → prefix p at ≡ k
 whole_prefix p k at is whole = ap entries (ap (λ n. take n p) whole ∙ take_all (length p) p (omega arith)) ∙ (ap entries is ∙ entries_of k)

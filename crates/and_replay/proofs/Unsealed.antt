@@ -1,24 +1,11 @@
 -- In a run of a built plan nothing is to be sealed, so no coprocessor is ever enabled.
-use Rattle.std.proofs.Common.{◌≡◌, ℕ, zero, suc, ◌+◌, ◌*◌, ◌<◌, ◌≤◌, Bool, true, false, ◌&&◌, not, List, [], ◌∷◌, ◌++◌, take, drop, refl, sym, ap, ◌∙◌, subst, arith, Option, Some, None, inl, inr}
+use Rattle.std.proofs.Common.{◌≡◌, ℕ, ◌+◌, ◌*◌, ◌<◌, ◌≤◌, true, false, ◌&&◌, List, [], ◌∷◌, ◌++◌, drop, refl, sym, ap, ◌∙◌, subst, arith, Option, Some, None, inl, inr}
 use Rattle.std.specs.Prelude.{◌==◌, if◌then◌else◌}
-use Rattle.std.specs.List.{All, filter, list_any}
-use Rattle.std.proofs.lemmas.List.Elements.{All-nil, All-cons, All-head, All-tail, All-take, All-filter}
 use Rattle.and_policy.specs.declared.decision.Dest.{Dest}
-use Rattle.and_policy.specs.declared.decision.Exit.{Exit}
-use Rattle.and_policy.specs.declared.decision.Exit.TheVariants as exits
 use Rattle.and_policy.specs.declared.decision.Leaving.TheVariants as leavings
 use Rattle.and_policy.specs.declared.decision.Name.{Name}
-use Rattle.and_policy.specs.declared.decision.Verdict.{Verdict}
-use Rattle.and_policy.specs.declared.entry.Entry.{Entry}
-use Rattle.and_policy.specs.declared.entry.Entry.TheVariants.{AddNet, AddVm, RemoveVm, Place, AddRule, DelRule, AddRoute, DelRoute, Tick}
-use Rattle.and_policy.specs.declared.entry.Rule.{Rule}
-use Rattle.and_policy.specs.declared.entry.Side.{Side}
-use Rattle.and_policy.specs.declared.entry.Side.TheVariants as sides
-use Rattle.and_policy.specs.declared.packet.Tuple.{Tuple}
-use Rattle.and_policy.specs.Egress.{egress, exit_of, exit_by, number_of, verdict, verdict_by, deciding_rule, rule_before}
-use Rattle.and_policy.specs.Logs.{Vm, vm_of, rules, deletes_rule}
-use Rattle.and_policy.specs.Matching.{least, better, is_side, matches}
-use Rattle.and_policy.specs.Programmes.{prefix, live, dest_by, leaving, leaving_by, own_net}
+use Rattle.and_policy.specs.Logs.{vm_of}
+use Rattle.and_policy.specs.Programmes.{live, dest_by, leaving, own_net}
 use Rattle.and_events.specs.declared.event.Actor.{Actor}
 use Rattle.and_events.specs.declared.event.Actor.TheVariants.{HostInstall, GateInstall, Worker, Coproc, Gateway, Controller, Driver}
 use Rattle.and_events.specs.declared.event.Arrival.TheVariants as arrivals
@@ -41,99 +28,19 @@ use Rattle.and_events.specs.declared.plan.Plan.{Plan}
 use Rattle.and_events.specs.declared.plan.Settings.{Settings}
 use Rattle.and_events.specs.Flow.{Flow, Move, Stay, Enter, Lose, Grab, Send, SealLater, Stop, flow_after, queue_at, hand_at}
 use Rattle.and_events.specs.Legal.{Legal, Enabled, CanTake, Departs, entries_at}
-use Rattle.and_events.specs.Places.{queue_place, queue_count, hand_count, hand_place, node_of, IsNode, IsActor, IsWorker}
+use Rattle.and_events.specs.Places.{queue_place, queue_count, hand_count, hand_place, node_of, IsActor, IsWorker}
 use Rattle.and_events.specs.Run.{Run}
-use Rattle.and_events.specs.Sound.{IsSound, IsBuilt, IsBuiltEntry}
+use Rattle.and_events.specs.Sound.{IsSound, IsBuilt}
 use Rattle.and_events.specs.State.{State, state, start, after, move_of, send, departs, node_at, dest_endpoint, dest_net, source_net, carried_at, packet_at, tuple_at, programme_of}
 use Rattle.and_laws.proofs.Rows.{set_at, replicate_at}
 use Rattle.and_book.proofs.Settled.{worker_node}
 use Rattle.std.proofs.lemmas.Nat.{mul-add-lt}
-use Rattle.and_replay.proofs.PlainLog.{ops_of, plain_log, programme_is}
+use Rattle.and_book.proofs.Leading.{known_entries}
+use Rattle.and_book.proofs.Open.{never_sealed}
 
 -- the number of a worker's hand is below the hosts times the workers
 worker_below : (s : Settings) (h w : ℕ) → h < s.hosts → w < s.workers → h * s.workers + w < s.hosts * s.workers
 worker_below s h w is in_row = let l = mul-add-lt h s.workers w s.hosts is in_row in omega (arith, l)
-
--- ---- no rule seals
-
-abbrev IsOpen : Rule → Type 0
-IsOpen r = r.sealed ≡ false
-
-better_holds : (P : Rule → Type 0) (before : Rule → Rule → Bool) (x : Rule) (o : Option Rule) → P x → ((y : Rule) → o ≡ Some y → P y) → P (better before x o)
-better_holds P before x None p q = p
-better_holds P before x (Some y) p q = pick (before y x)
-  where
-    pick : (b : Bool) → P (if b then y else x)
-    pick true = q y refl
-    pick false = p
-
-least_holds : (P : Rule → Type 0) (before : Rule → Rule → Bool) (xs : List Rule) (r : Rule) → All P xs → least before xs ≡ Some r → P r
-least_holds P before [] r all e = absurd (cc)
-least_holds P before (x ∷ xs) r all e =
-    let same : better before x (least before xs) ≡ r = cc in
-    subst P same (better_holds P before x (least before xs) (All-head P x xs all) (λ y f. least_holds P before xs y (All-tail P x xs all) f))
-
-rules_open : (k : List Entry) (net : ℕ) → All IsBuiltEntry k → All IsOpen (rules k net)
-rules_open [] net all = All-nil IsOpen
-rules_open (AddRule n rule ∷ later) net all =
-    pick ((n == net) && not (list_any (deletes_rule net rule.number) later)) (All-head IsBuiltEntry (AddRule n rule) later all) (rules_open later net (All-tail IsBuiltEntry (AddRule n rule) later all))
-  where
-    pick : (b : Bool) → IsOpen rule → All IsOpen (rules later net) → All IsOpen (if b then rule ∷ rules later net else rules later net)
-    pick true is rest = All-cons IsOpen rule (rules later net) is rest
-    pick false is rest = rest
-rules_open (AddNet n ∷ later) net all = rules_open later net (All-tail IsBuiltEntry _ later all)
-rules_open (AddVm vm n mac ip host ∷ later) net all = rules_open later net (All-tail IsBuiltEntry _ later all)
-rules_open (AddRoute n route ∷ later) net all = rules_open later net (All-tail IsBuiltEntry _ later all)
-rules_open (RemoveVm vm ∷ later) net all = rules_open later net (All-tail IsBuiltEntry _ later all)
-rules_open (Place vm host ∷ later) net all = rules_open later net (All-tail IsBuiltEntry _ later all)
-rules_open (DelRule n number ∷ later) net all = rules_open later net (All-tail IsBuiltEntry _ later all)
-rules_open (DelRoute n number ∷ later) net all = rules_open later net (All-tail IsBuiltEntry _ later all)
-rules_open (Tick ∷ later) net all = rules_open later net (All-tail IsBuiltEntry _ later all)
-
-open_by : (side : Side) (o : Option Rule) → ((r : Rule) → o ≡ Some r → IsOpen r) → (verdict_by side o).sealed ≡ false
-open_by side None all = refl
-open_by side (Some r) all = all r refl
-
-verdict_open : (side : Side) (x : Tuple) (list : List Rule) → All IsOpen list → (verdict side x list).sealed ≡ false
-verdict_open side x list all =
-    let fits = λ (rule : Rule). is_side rule.side side && matches x rule in
-    open_by side (deciding_rule side x list) (λ r e. least_holds IsOpen rule_before (filter fits list) r (All-filter fits IsOpen list all) e)
-
-exit_open : (v : Verdict) (by : Name) → v.sealed ≡ false → exit_by v ≡ exits.Allowed by true → ⊥
-exit_open v by is e = pick v.allow e
-  where
-    pick : (b : Bool) → (if b then exits.Allowed v.by v.sealed else exits.Denied (number_of v.by)) ≡ exits.Allowed by true → ⊥
-    pick true f = let clash : v.sealed ≡ true = cc in let no_way : false ≡ true = sym is ∙ clash in absurd (cc)
-    pick false f = absurd (cc)
-
-egress_open : (k : List Entry) (x : Tuple) (o : Option Vm) (by : Name) → All IsBuiltEntry k → exit_of k x o ≡ exits.Allowed by true → ⊥
-egress_open k x None by all e = absurd (cc)
-egress_open k x (Some v) by all e = pick (x.source == v.ip) e
-  where
-    pick : (b : Bool) → (if b then exit_by (verdict sides.Egress x (rules k v.net)) else exits.Spoofed) ≡ exits.Allowed by true → ⊥
-    pick true f = exit_open (verdict sides.Egress x (rules k v.net)) by (verdict_open sides.Egress x (rules k v.net) (rules_open k v.net all)) f
-    pick false f = absurd (cc)
-
-leaving_open : (x : Exit) (d dest : Dest) (by : Name) → (x ≡ exits.Allowed by true → ⊥) → leaving_by x d ≡ leavings.Allowed by true dest → ⊥
-leaving_open exits.NoVm d dest by quiet e = absurd (cc)
-leaving_open exits.Spoofed d dest by quiet e = absurd (cc)
-leaving_open (exits.Denied n) d dest by quiet e = absurd (cc)
-leaving_open (exits.Allowed b sealed) d dest by quiet e = quiet (let first : b ≡ by = cc in let second : sealed ≡ true = cc in cc)
-
-prefix_of : (k : List Entry) (j : ℕ) → prefix (ops_of k) j ≡ take j k
-prefix_of [] zero = refl
-prefix_of [] (suc j) = refl
-prefix_of (e ∷ k) zero = refl
-prefix_of (e ∷ k) (suc j) = ap (λ ks. e ∷ ks) (prefix_of k j)
-
-module _ (plan : Plan) (h : List Event) (sound : IsSound plan) (built : IsBuilt plan) (r : Run plan h) where
-  abbrev s : State
-  s = state plan h
-
-  built_entries : (a : Actor) (at : ℕ) → IsNode plan.settings (node_of a) → All IsBuiltEntry (entries_at plan s a at)
-  built_entries a at is =
-      subst (All IsBuiltEntry) (sym (ap (λ p. prefix p at) (programme_is plan h (node_of a) built r is) ∙ prefix_of s.programmes.log at))
-      (All-take IsBuiltEntry at s.programmes.log (plain_log plan h built r).built)
 
 -- ---- moves that bring nothing to a coprocessor
 
@@ -211,13 +118,12 @@ module _ (plan : Plan) (h : List Event) (sound : IsSound plan) (built : IsBuilt 
   event_by (Take a q i) u l = takes_by plan (state plan h) a q i u l
   event_by (Egress a i at way d) u l =
       departs_by a i at d l.0.actor l.1 (λ by dest end e.
-      let k = entries_at plan (state plan h) a at in
       let p = programme_of plan (state plan h) (node_of a) in
+      let k = entries_at plan (state plan h) a at in
       let vm = (packet_at plan i).vm in
       let x = tuple_at plan i in
       let said = dest_by plan.settings.gateways x (live p at (own_net (vm_of k vm)) x.destination) in
-      leaving_open (egress k vm x) said dest by
-      (egress_open k x (vm_of k vm) by (built_entries plan h sound built r a at (worker_node plan.settings a l.1 l.0.actor)))
+      never_sealed plan k vm x by said dest (known_entries plan h a at sound built r (worker_node plan.settings a l.1 l.0.actor))
       (allowed_said by dest end d e l.2))
     where
       allowed_said : (by : Name) (dest : Dest) (end : End) (x : Departure) → x ≡ Allowed by true dest end → Departs plan (state plan h) (node_of a) i (leaving plan.settings.gateways (programme_of plan (state plan h) (node_of a)) at (packet_at plan i).vm (tuple_at plan i)) x

@@ -1,65 +1,29 @@
-//! What the log says of packets, found without looking back over it.
-ghost use Rattle.std.specs.Prelude.{◌≡◌, ◌<◌, ℕ, nat_eq, [], ◌∷◌, ◌++◌, cond, Option, None, List, OnOk, unwrap_or};
-ghost use Rattle.std.specs.HashMap as hash;
+//! What the log says of packets: the tables of a host and of a gateway that have all of it.
+ghost use Rattle.std.specs.Prelude.{◌≡◌, ◌<◌, ◌-◌, ◌^◌, ℕ, [], ◌∷◌, ◌++◌, List, length, OnOk, IfOk};
 ghost use Rattle.and_policy.specs.declared.entry.Entry.{Entry};
 ghost use Rattle.and_policy.specs.Egress as egresses;
 ghost use Rattle.and_policy.specs.Fitting.{fits};
 ghost use Rattle.and_policy.specs.Ingress as ingresses;
-ghost use Rattle.and_policy.specs.Logs as logs;
 ghost use Rattle.and_policy.specs.Owners as places;
 ghost use Rattle.and_events.specs.Sound.{IsBuiltEntry};
-ghost use Rattle.and_replay.specs.Indexes.{AreRules, IsIndex, leaving_hover};
+ghost use Rattle.and_replay.specs.Indexes.{IsIndex, leaving_hover};
 
-use and_events::Items;
 use and_policy::plain::verdict;
 use and_policy::{
-    Dest, Entry, Exit, Landing, Leaving, Located, Name, NoMemory, Register, Routed, Rule, Side,
-    Tuple, Verdict, flow_hash,
+    Dest, Entry, Exit, Landing, Leaving, Located, Name, NoMemory, Op, Routed, Side, Tables, Tuple,
+    Verdict, flow_hash,
 };
+use and_routes::GatewayTables;
+use and_tables::HostTables;
 use std::alloc::Global;
-use std::collections::HashMap;
 
 /// What the entries up to now say of packets.
 #[derive(Drop)]
 pub struct Index {
-    /// The rules of each network, in the order of the log.
-    pub rules: HashMap<u32, Items<Rule>>,
-    /// The VMs.
-    pub register: Register,
-}
-
-// Puts the rule behind those of the network.
-fn push_at(
-    alloc: Global,
-    map: &mut HashMap<u32, Items<Rule>>,
-    net: u32,
-    rule: Rule,
-) -> Result<(), NoMemory>
-    ensures { OnOk result ((q : ℕ) → unwrap_or (hash.get nat_eq map.new q) []
-        ≡ cond (nat_eq net q) (unwrap_or (hash.get nat_eq map.old net) [] ++ rule ∷ []) (unwrap_or (hash.get nat_eq map.old q) [])) }
-{
-    let mut rules = map.remove(&net).unwrap_or(Items::new(alloc));
-    rules.push(rule)?;
-    map.insert(net, rules).map_err(|_| NoMemory)?;
-    Ok(())
-}
-
-// The rules after one entry more.
-fn note_rule(
-    alloc: Global,
-    map: &mut HashMap<u32, Items<Rule>>,
-    entry: Entry,
-) -> Result<(), NoMemory>
-    requires { IsBuiltEntry entry }
-    ensures { OnOk result ((k : List Entry) → AreRules map.old k → AreRules map.new (k ++ entry ∷ [])) }
-{
-    match entry {
-        Entry::AddRule { net, rule } => {
-            push_at(alloc, map, net, rule)?;
-            Ok(())
-        }
-        _ => Ok(()),
-    }
+    /// Rules and VMs.
+    pub host: HostTables,
+    /// Routes and places.
+    pub gateway: GatewayTables,
 }
 
 // The number of what denied, or 0 for the implied verdict.
@@ -90,47 +54,41 @@ fn exit_by(verdict: Verdict) -> Exit
 
 impl Index {
     /// The index of no entries.
-    pub(crate) fn new(alloc: Global) -> Index
-        ensures { IsIndex result [] }
+    pub(crate) fn make(alloc: Global) -> Result<Index, NoMemory>
+        ensures { IfOk result (λ index. IsIndex index []) }
     {
-        Index {
-            rules: HashMap::new(alloc),
-            register: Register::new(alloc),
-        }
+        let host = HostTables::make(alloc, 0, 1)?;
+        let gateway = GatewayTables::make(alloc)?;
+        Ok(Index { host, gateway })
     }
 
     /// Adds an entry that fits. After want of memory the index is of no log.
     pub(crate) fn append(&mut self, alloc: Global, entry: Entry) -> Result<(), NoMemory>
-        requires { IsBuiltEntry entry }
-        ensures { OnOk result ((hosts : Option ℕ) (k : List Entry) → fits hosts k entry ≡ None → IsIndex self.old k → IsIndex self.new (k ++ entry ∷ [])) }
+        requires built { IsBuiltEntry entry }
+        requires few { length self.old.host.ops < 2 ^ 32 - 1 }
+        requires fewer { length self.old.gateway < 2 ^ 32 - 1 }
+        ensures { OnOk result ((hosts : ℕ) (k : List Entry) → fits (Some hosts) k entry ≡ None → IsIndex self.old k → IsIndex self.new (k ++ entry ∷ [])) }
     {
-        note_rule(alloc, &mut self.rules, entry)?;
-        self.register.room()?;
-        self.register.append(&entry);
+        self.host.apply(alloc, Op::Entry(entry))?;
+        self.gateway.apply(alloc, Op::Entry(entry))?;
         Ok(())
     }
 
-    // The rules of the network.
-    fn rules_of(&self, net: u32) -> &[Rule]
-        ensures { (k : List Entry) → IsIndex self.now k → result.now ≡ logs.rules k net }
-    {
-        match self.rules.get(&net) {
-            Some(rules) => rules.as_slice(),
-            None => &[],
-        }
-    }
-
     // What the egress rules say of a packet of this VM.
+    #[tactic(auto, using(crate::proofs::Indexing::host_log, crate::proofs::Indexing::of_host))]
     fn exit(&self, vm: u32, tuple: &Tuple) -> Exit
         ensures { (k : List Entry) → IsIndex self.now k → result ≡ egresses.egress k vm tuple.now }
     {
-        let Some(residence) = self.register.residence(vm) else {
+        let Some(net) = self.host.net_of(vm) else {
             return Exit::NoVm;
         };
-        if tuple.source != residence.ip {
+        let Some(ip) = self.host.address(vm) else {
+            return Exit::NoVm;
+        };
+        if tuple.source != ip {
             return Exit::Spoofed;
         }
-        exit_by(verdict(Side::Egress, tuple, self.rules_of(residence.net)))
+        exit_by(verdict(Side::Egress, tuple, self.host.rules(net)))
     }
 
     /// What becomes of a packet that leaves this VM, where no offload order lives: it costs the rules of the VM's network,
@@ -154,13 +112,14 @@ impl Index {
     }
 
     /// What the ingress rules of the network say of a packet that has come for the owner of its destination.
+    #[tactic(auto, using(crate::proofs::Indexing::host_log, crate::proofs::Indexing::of_host))]
     pub(crate) fn landing(&self, net: u32, tuple: &Tuple) -> Landing
         ensures { (k : List Entry) → IsIndex self.now k → result ≡ ingresses.landing k net tuple.now }
     {
-        let Some(vm) = self.register.owner(net, tuple.destination) else {
+        let Some(vm) = self.host.owner(net, tuple.destination) else {
             return Landing::NoOwner;
         };
-        let verdict = verdict(Side::Ingress, tuple, self.rules_of(net));
+        let verdict = verdict(Side::Ingress, tuple, self.host.rules(net));
         Landing::Owned {
             vm,
             by: verdict.by,
@@ -168,24 +127,19 @@ impl Index {
         }
     }
 
-    /// Where the route of the network leads for the address: there are no routes, so it stays in the network.
+    /// Where the route of the network leads for the address.
+    #[tactic(auto, using(crate::proofs::Indexing::gateway_log, crate::proofs::Indexing::of_gateway))]
     pub(crate) fn routed(&self, net: u32, address: u32) -> Routed
         ensures { (k : List Entry) → IsIndex self.now k → result ≡ places.routed k net address }
     {
-        let by = Name::Implied;
-        match self.register.owner_place(net, address) {
-            None => Routed::NoOwner { by },
-            Some(host) => Routed::To { by, net, host },
-        }
+        self.gateway.route(net, address)
     }
 
     /// The host of the address's owner in the network itself.
+    #[tactic(auto, using(crate::proofs::Indexing::gateway_log, crate::proofs::Indexing::of_gateway))]
     pub(crate) fn located(&self, net: u32, address: u32) -> Located
         ensures { (k : List Entry) → IsIndex self.now k → result ≡ places.located k net address }
     {
-        match self.register.owner_place(net, address) {
-            None => Located::NoOwner,
-            Some(host) => Located::To { host },
-        }
+        self.gateway.locate(net, address)
     }
 }

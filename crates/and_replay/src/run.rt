@@ -154,7 +154,7 @@ pub fn replay_run(alloc: Global, plan: Plan, turns: Turns) -> Result<Book, NoMem
 {
     let Turns::Plain = turns;
     let mut hands = Hands::make(alloc, count_hands(plan.settings) as usize)?;
-    let mut index = Index::new(alloc);
+    let mut index = Index::make(alloc)?;
     let mut book = Book::make(alloc, plan, 0)?;
     'turns: while is_due(&book) {
         turn(alloc, &mut book, &mut index, &mut hands)?;

@@ -13,7 +13,7 @@ use Rattle.and_events.specs.Legal.{IsAtRest, IsOver}
 use Rattle.and_events.specs.Places.{node_place, queue_place}
 use Rattle.and_events.specs.Ports.{ports_after}
 use Rattle.and_events.specs.Programming.{programmes_after}
-use Rattle.and_events.specs.Sound.{IsSound, IsBuilt, IsBuiltStep, plain_settings}
+use Rattle.and_events.specs.Sound.{IsSound, IsBuilt, IsBuiltStep}
 use Rattle.and_events.specs.State.{state, start, after, step_of, word_of, move_of, ports_move_of}
 use Rattle.and_laws.proofs.Rows.{replicate_at}
 use Rattle.core_tests.specs.Small.{small_plan}
@@ -42,7 +42,7 @@ pub small_sound : (p : Plan) → p ≡ small_plan → IsSound p
 small_sound p is = subst IsSound (sym is) sound_small
 
 pub small_built : (p : Plan) → p ≡ small_plan → IsBuilt p
-small_built p is = subst IsBuilt (sym is) (record { settings = refl; steps = All-cons IsBuiltStep steps.Wait (steps.Finish ∷ []) tt (All-cons IsBuiltStep steps.Finish [] tt (All-nil IsBuiltStep)) })
+small_built p is = subst IsBuilt (sym is) (record { steps = All-cons IsBuiltStep steps.Wait (steps.Finish ∷ []) tt (All-cons IsBuiltStep steps.Finish [] tt (All-nil IsBuiltStep)) })
 
 -- ---- before the first event
 

@@ -9,10 +9,26 @@ use Rattle.and_events.specs.declared.plan.Step.TheVariants as steps
 use Rattle.and_events.specs.Run.{past}
 use Rattle.and_events.specs.State.{no_packet}
 use Rattle.and_book.specs.Views.{now}
+use Rattle.and_book.proofs.Plans.{log_room, log_short}
 use Rattle.and_replay.specs.Indexes.{IsIndex}
+use Rattle.and_replay.proofs.Indexing.{few_ops}
 use Rattle.and_replay.proofs.Adding.{added, log_kept}
 use Rattle.and_replay.proofs.DueSteps.{due_packet, entry_fits, log_longer, no_other}
 use Rattle.and_replay.proofs.acting.drive.Goals as goal
+
+pub append-requires-clause-few : goal.append-requires-clause-few
+append-requires-clause-few c =
+    let b = c.args.book.now in
+    let told : slice_get b.plan.steps (now b).next ≡ Some (steps.Append c.in-Append.entry) = c.in-Append.ensures.due in
+    few_ops c.args.index.now.host.ops (now b).programmes.log (length b.plan.log) c.requires.index.host
+    (log_room b.plan (past b.lines) c.in-Append.entry c.is_run.ensures.sound c.is_run.ensures.run told) (log_short b.plan c.is_run.ensures.sound)
+
+pub append-requires-clause-fewer : goal.append-requires-clause-fewer
+append-requires-clause-fewer c =
+    let b = c.args.book.now in
+    let told : slice_get b.plan.steps (now b).next ≡ Some (steps.Append c.in-Append.entry) = c.in-Append.ensures.due in
+    few_ops c.args.index.now.gateway (now b).programmes.log (length b.plan.log) c.requires.index.gateway
+    (log_room b.plan (past b.lines) c.in-Append.entry c.is_run.ensures.sound c.is_run.ensures.run told) (log_short b.plan c.is_run.ensures.sound)
 
 pub parcel_of-requires-clause-there : goal.parcel_of-requires-clause-there
 parcel_of-requires-clause-there c =
@@ -42,7 +58,7 @@ returns-in_ok-append-in-Append-clause-index c =
     let b = c.args.book.now in
     let told : slice_get b.plan.steps (now b).next ≡ Some (steps.Append c.in-Append.entry) = c.in-Append.ensures.due in
     subst (λ (k : List Entry). IsIndex c.append.new.self k) (sym (log_longer b c.append-in-Append.new.self c.in-Append.entry c.append-in-Append.ensures told))
-    (c.in_ok-append-in-Append.ensures (Some b.plan.settings.hosts) (now b).programmes.log
+    (c.in_ok-append-in-Append.ensures b.plan.settings.hosts (now b).programmes.log
     (entry_fits b.plan (past b.lines) c.in-Append.entry c.is_run.ensures.sound c.is_run.ensures.run told) c.requires.index)
 
 pub returns-in_ok-parcel-in-Inject-clause-adds :

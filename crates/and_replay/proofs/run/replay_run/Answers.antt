@@ -14,7 +14,7 @@ turns-init c =
     let b = c.in_ok-book.book in
     let e = c.in_ok-book.ensures in
     record {
-      way = begins b c.count_hands.result c.new-index.result c.in_ok-hands.hands (subst IsSound (sym e.plan) c.requires.sound) e.threads e.lines c.new-index.ensures
+      way = begins b c.count_hands.result c.in_ok-index.index c.in_ok-hands.hands (subst IsSound (sym e.plan) c.requires.sound) e.threads e.lines c.in_ok-index.ensures
           (c.count_hands.ensures ∙ ap (λ (p : Plan). hand_count p.settings) (sym e.plan)) c.in_ok-hands.ensures;
       plan = e.plan;
     }

@@ -1,6 +1,6 @@
 -- What is carried of each packet in a run of a built plan: the network of its last send fits its 24 bits, and nothing is sealed.
 use Rattle.std.proofs.Common.{◌≡◌, ℕ, zero, suc, ◌<◌, ◌≤◌, ◌^◌, Bool, true, false, cond, List, [], ◌∷◌, length, replicate, refl, sym, subst, arith}
-use Rattle.std.specs.Prelude.{◌==◌}
+use Rattle.std.specs.Prelude.{◌==◌, unwrap_or}
 use Rattle.std.specs.List.{All}
 use Rattle.std.proofs.lemmas.List.Elements.{All-head, All-tail}
 use Rattle.and_policy.specs.declared.decision.Dest.{Dest}
@@ -14,7 +14,7 @@ use Rattle.and_policy.specs.declared.entry.Entry.TheVariants as entry_kinds
 use Rattle.and_policy.specs.Egress.{egress}
 use Rattle.and_policy.specs.Logs.{vm_of}
 use Rattle.and_policy.specs.Owners.{routed}
-use Rattle.and_policy.specs.Programmes.{prefix, live, own_net}
+use Rattle.and_policy.specs.Programmes.{prefix, live, net_of_vm, own_net}
 use Rattle.and_policy.specs.Routes.{route}
 use Rattle.and_events.specs.declared.event.Actor.{Actor}
 use Rattle.and_events.specs.declared.event.Arrival.TheVariants as arrivals
@@ -39,16 +39,22 @@ use Rattle.and_events.specs.Just.{address}
 use Rattle.and_events.specs.Sound.{IsSound, IsBuilt}
 use Rattle.and_laws.proofs.Offloading.{right_orders, by_order, dest_of}
 use Rattle.and_laws.proofs.Rows.{set_at}
-use Rattle.and_book.specs.Nets.{net_in}
 use Rattle.and_kept.specs.Settling.{LeadsRouted}
 use Rattle.and_book.specs.Settling.{leaving_said}
 use Rattle.and_book.proofs.Known.{IsKnown, known_plan}
 use Rattle.and_book.proofs.Leading.{known_entries, leads_by}
-use Rattle.and_book.proofs.NetTable.{net_first}
 use Rattle.and_book.proofs.Open.{never_sealed}
 use Rattle.and_book.proofs.Settled.{gateway_node, worker_node}
 
 -- ---- networks of the log
+
+-- the network of the VM, as its entry of the log added it; 0 where none did
+abbrev net_in : List Entry → ℕ → ℕ
+net_in log vm = unwrap_or (net_of_vm log vm) 0
+
+net_first : (k : List Entry) (v net mac ip host vm : ℕ) (b : Bool) → (v == vm) ≡ b → net_in (entry_kinds.AddVm v net mac ip host ∷ k) vm ≡ cond b net (net_in k vm)
+net_first k v net mac ip host vm true e = rw e refl
+net_first k v net mac ip host vm false e = rw e refl
 
 either : (b : Bool) (x y : ℕ) → x ≤ 16777215 → y ≤ 16777215 → cond b x y ≤ 16777215
 either true x y p q = p

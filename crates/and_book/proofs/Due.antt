@@ -1,15 +1,14 @@
--- In a run of a built plan an actor may act by what is kept where it is enabled; and the packet of the step that is due is one of a VM with a name.
+-- In a run of a built plan an actor may act by what is kept where it is enabled; and the step that is due injects a packet of the plan.
 use Rattle.std.proofs.Common.{false}
 use Rattle.and_events.specs.Places.{actor_number, actor_count, IsActor}
 use Rattle.and_kept.specs.Numbers.{count_below}
 use Rattle.and_book.specs.Enabling.{acts_at, acts_by}
 use Rattle.and_book.proofs.Numbered.{at_number, at_acts}
 use Rattle.std.proofs.Common.{◌≡◌, ℕ, ◌<◌, Bool, true, List, length, sym, ap, ◌∙◌, refl, subst, Option, Some, None}
-use Rattle.std.specs.Prelude.{slice_get, unwrap_or, ◌↔◌, ◌==◌, IsTrue}
-use Rattle.std.proofs.lemmas.Option.{unwrap_or-slice_get, slice_get_within}
+use Rattle.std.specs.Prelude.{slice_get, ◌↔◌, IsTrue}
+use Rattle.std.proofs.lemmas.Option.{slice_get_within}
 use Rattle.and_policy.specs.declared.port.Port.{Port}
 use Rattle.and_policy.specs.declared.port.Port.TheVariants.{Absent, Running, Paused, Arriving, Hairpin}
-use Rattle.and_policy.specs.Logs.{vms, is_live}
 use Rattle.and_events.specs.declared.event.Actor.{Actor}
 use Rattle.and_events.specs.declared.event.Actor.TheVariants.{HostInstall, GateInstall, Worker, Coproc, Gateway, Controller, Driver}
 use Rattle.and_events.specs.declared.event.Event.{Event}
@@ -18,19 +17,16 @@ use Rattle.and_events.specs.declared.plan.Plan.{Plan}
 use Rattle.and_events.specs.declared.plan.Step.{Step}
 use Rattle.and_events.specs.declared.plan.Step.TheVariants as steps
 use Rattle.and_events.specs.Ports.{port_at, IsHairpin}
-use Rattle.and_events.specs.State.{State, state, packet_at, no_packet}
+use Rattle.and_events.specs.State.{State, state}
 use Rattle.and_events.specs.Legal.{Enabled}
 use Rattle.and_events.specs.Run.{Run}
 use Rattle.and_events.specs.Sound.{IsSound, IsBuilt}
-use Rattle.and_laws.specs.Scripted.{script_at}
-use Rattle.and_laws.proofs.Following.{follows}
 use Rattle.and_laws.proofs.Steps.{does}
-use Rattle.and_laws.proofs.GoingOn.{number_of, find_live}
 use Rattle.and_laws.proofs.Unstuck.{are_free}
 use Rattle.and_laws.proofs.Sizes.{sizes, nodes as nodes_of}
 use Rattle.and_book.specs.Inside.{holds_of, Kept, Stands}
-use Rattle.and_book.specs.Enabling.{CanDo, CanAct, IsInjectable, vm_in}
-use Rattle.and_book.proofs.Known.{added_named, known_log, built_step}
+use Rattle.and_book.specs.Enabling.{CanDo, CanAct, IsInjectable}
+use Rattle.and_book.proofs.Known.{built_step}
 use Rattle.and_book.proofs.PlainPorts.{IsPlain, plain_ports, plain_at, not_hairpin}
 use Rattle.and_book.proofs.Enabled.{installer_may, installer_was, works, worked, does_due, did_step}
 
@@ -76,37 +72,23 @@ module _ (plan : Plan) (h : List Event) (sound : IsSound plan) (built : IsBuilt 
 
   -- ---- the packet of the step that is due
 
-  inject_named : (i : ℕ) → slice_get plan.steps s.next ≡ Some (steps.Inject i) → (i < length plan.packets) × (vm_in plan.packets i < length plan.names)
-  inject_named i told =
-      let d = (does plan h s.next (steps.Inject i) sound refl told).fits in
-      let packet = d.1.0 in
-      let sent = d.1.2 in
-      let f = follows plan h sound r in
-      let p = script_at plan h in
-      let there : packet_at plan i ≡ packet = sym (unwrap_or-slice_get plan.packets i no_packet) ∙ ap (λ o. unwrap_or o no_packet) d.1.1 in
-      let number : (packet_at plan i).vm ≡ sent.vm.number = ap (λ x. x.vm) there ∙ sym sent.number in
-      let live : is_live p.log (packet_at plan i).vm ≡ true =
-      subst (λ n. is_live p.log n ≡ true) (sym number) (find_live (λ v. v.mac == sent.mac) (vms p.log) sent.vm sent.source) in
-      let live_now : is_live s.programmes.log (packet_at plan i).vm ≡ true = ap (λ k. is_live k (packet_at plan i).vm) f.log ∙ live in
-      let q = number_of s.programmes.log (packet_at plan i).vm live_now in (
-        slice_get_within plan.packets i packet d.1.1,
-        added_named plan s.programmes.log (packet_at plan i).vm q.number (known_log plan h sound built r) q.is,
-      )
+  inject_there : (i : ℕ) → slice_get plan.steps s.next ≡ Some (steps.Inject i) → i < length plan.packets
+  inject_there i told = let d = (does plan h s.next (steps.Inject i) sound refl told).fits in slice_get_within plan.packets i d.1.0 d.1.1
 
-  due_named : (due : Option Step) → slice_get plan.steps s.next ≡ due → IsInjectable plan.packets (length plan.names) due
-  due_named (Some (steps.Inject i)) told = inject_named i told
-  due_named (Some (steps.Append e)) told = tt
-  due_named (Some steps.Review) told = tt
-  due_named (Some (steps.Hold node what)) told = tt
-  due_named (Some (steps.Free node what)) told = tt
-  due_named (Some steps.Wait) told = tt
-  due_named (Some (steps.Blackout vm host)) told = tt
-  due_named (Some (steps.Resume vm)) told = tt
-  due_named (Some steps.Finish) told = tt
-  due_named None told = tt
+  due_there : (due : Option Step) → slice_get plan.steps s.next ≡ due → IsInjectable plan.packets due
+  due_there (Some (steps.Inject i)) told = inject_there i told
+  due_there (Some (steps.Append e)) told = tt
+  due_there (Some steps.Review) told = tt
+  due_there (Some (steps.Hold node what)) told = tt
+  due_there (Some (steps.Free node what)) told = tt
+  due_there (Some steps.Wait) told = tt
+  due_there (Some (steps.Blackout vm host)) told = tt
+  due_there (Some (steps.Resume vm)) told = tt
+  due_there (Some steps.Finish) told = tt
+  due_there None told = tt
 
-  pub due_injectable : IsInjectable plan.packets (length plan.names) (slice_get plan.steps s.next)
-  due_injectable = due_named (slice_get plan.steps s.next) refl
+  pub due_injectable : IsInjectable plan.packets (slice_get plan.steps s.next)
+  due_injectable = due_there (slice_get plan.steps s.next) refl
 
   -- ---- by what is kept
 

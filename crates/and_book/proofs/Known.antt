@@ -1,10 +1,8 @@
 -- What the log of a built plan has: the numbers of its entries are in their ranges.
-use Rattle.std.proofs.Common.{◌≡◌, ℕ, zero, suc, ◌<◌, ◌≤◌, true, false, List, [], ◌∷◌, length, take, get_or, refl, sym, subst, arith, Option, Some, None}
-use Rattle.std.specs.Prelude.{slice_get, position, option_map}
+use Rattle.std.proofs.Common.{◌≡◌, ℕ, zero, suc, ◌<◌, ◌≤◌, false, List, [], ◌∷◌, length, take, sym, subst, Some}
+use Rattle.std.specs.Prelude.{slice_get}
 use Rattle.std.specs.List.{All}
-use Rattle.std.proofs.lemmas.Bool.{eqb-true}
 use Rattle.std.proofs.lemmas.List.Elements.{All-nil, All-push, All-head, All-tail}
-use Rattle.std.proofs.lemmas.List.Quantifiers.{position-Some}
 use Rattle.and_policy.specs.declared.entry.Entry.{Entry}
 use Rattle.and_policy.specs.declared.entry.Entry.TheVariants as entries
 use Rattle.and_events.specs.declared.event.Event.{Event}
@@ -14,7 +12,6 @@ use Rattle.and_events.specs.declared.plan.Plan.{Plan}
 use Rattle.and_events.specs.Script.{Script, at_start}
 use Rattle.and_events.specs.Sound.{IsSound, StepFits, StepsFit, after_step, sent_after, IsBuilt, IsBuiltStep, IsBuiltEntry}
 use Rattle.and_events.specs.State.{state}
-use Rattle.and_events.specs.Legal.{adds, added_at}
 use Rattle.and_events.specs.Run.{Run}
 use Rattle.and_laws.specs.Scripted.{script_after_steps}
 use Rattle.and_laws.proofs.Following.{follows_steps}
@@ -74,28 +71,6 @@ known_to_end plan p sent (step ∷ later) f built known =
 -- so is the whole log of the plan
 pub known_plan : (plan : Plan) → IsSound plan → IsBuilt plan → All (IsKnown plan) plan.log
 known_plan plan sound built = known_to_end plan at_start 0 plan.steps sound.steps built.steps (All-nil (IsKnown plan))
-
-named : (plan : Plan) (e : Entry) (vm : ℕ) → IsKnown plan e → adds vm e ≡ true → vm < length plan.names
-named plan (entries.AddVm v net mac ip host) vm known is = omega (arith, known.0, eqb-true v vm is)
-named plan (entries.AddNet net) vm known is = absurd (cc)
-named plan (entries.AddRule net rule) vm known is = absurd (cc)
-named plan (entries.RemoveVm v) vm known is = absurd known
-named plan (entries.Place v host) vm known is = absurd known
-named plan (entries.DelRule net number) vm known is = absurd (cc)
-named plan (entries.AddRoute net route) vm known is = absurd (cc)
-named plan (entries.DelRoute net number) vm known is = absurd (cc)
-named plan entries.Tick vm known is = absurd known
-
-found : (o : Option ℕ) (q : ℕ) → option_map suc o ≡ Some q → (k : ℕ) × (o ≡ Some k)
-found None q e = absurd (cc)
-found (Some k) q e = (k, refl)
-
--- a VM that the log adds has a name
-pub added_named : (plan : Plan) (log : List Entry) (vm q : ℕ) → All (IsKnown plan) log → added_at log vm ≡ Some q → vm < length plan.names
-added_named plan log vm q known e =
-    let k = found (position (adds vm) log) q e in
-    let at = position-Some (adds vm) log k.0 entries.Tick k.1 in
-    named plan (get_or log k.0 entries.Tick) vm (known k.0 entries.Tick at.0) at.1
 
 -- a step of a built plan is built
 pub built_step : (plan : Plan) (n : ℕ) (step : Step) → IsBuilt plan → slice_get plan.steps n ≡ Some step → IsBuiltStep step

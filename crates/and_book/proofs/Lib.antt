@@ -12,7 +12,6 @@ pub mod PlainPorts
 pub mod Arriving
 pub mod Unsent
 pub mod Departing
-pub mod NetTable
 pub mod Carrying
 pub mod Outgoing
 pub mod FromHand

@@ -2,7 +2,7 @@
 use Rattle.and_events.specs.declared.plan.Settings.{Settings}
 use Rattle.and_events.specs.Flow.{Flow}
 use Rattle.std.proofs.Common.{◌≡◌, ℕ, ◌+◌, ◌-◌, ◌≤◌, vec_len, vec_capacity, List, [], ◌∷◌, ◌++◌, length, refl, sym, ap, ◌∙◌, subst, arith, replicate, false, cond, Option, None}
-use Rattle.std.specs.Prelude.{slice_index_or, is_some}
+use Rattle.std.specs.Prelude.{is_some}
 use Rattle.std.specs.List.{All, count_by}
 use Rattle.std.proofs.lemmas.Grind.{fold-append}
 use Rattle.std.proofs.lemmas.List.Elements.{All-push, All-nil}
@@ -41,8 +41,6 @@ pub record IsAfter (plan : Plan) (s : State) (e : Event) (k k' : Kept) : Type 0 
   pub stands : Stands k' (after plan s e)
   pub settings : k'.roads.settings ≡ k.roads.settings
   pub limit : k'.progress.limit ≡ k.progress.limit
-  pub vms : k'.progress.vms ≡ k.progress.vms
-  pub nets : k'.nets ≡ k.nets
 
 pub keeps_more : (plan : Plan) (threads : ℕ) (lines lines' : List Line) (k k' : Kept) (spare spare' seat : ℕ) (e : Event) →
     Keeps plan threads lines k spare → Legal plan (state plan (past lines)) e → seat ≡ seat_of threads plan.settings (actor_of e)
@@ -62,8 +60,6 @@ keeps_more plan threads lines lines' k k' spare spare' seat e keeps legal seated
       sized = record {
         settings = follows.settings ∙ keeps.sized.settings;
         limit = follows.limit ∙ keeps.sized.limit;
-        vms = follows.vms ∙ keeps.sized.vms;
-        nets = λ vm. ap (λ ns. slice_index_or ns vm 0) follows.nets ∙ keeps.sized.nets vm;
       };
       parcels = subst (λ h. HasParcels plan h k'.roads) (sym g) parcels;
       held = fits;

@@ -3,6 +3,7 @@ use Rattle.std.proofs.Common.{◌≡◌, ℕ, ◌+◌, ◌<◌, ◌≤◌, List,
 use Rattle.std.proofs.lemmas.Bool.{cases_lt}
 use Rattle.std.proofs.lemmas.List.{get_or_past}
 use Rattle.and_parcel.specs.Parcels.{ParcelView}
+use Rattle.and_policy.specs.Programmes.{net_of_vm}
 use Rattle.and_events.specs.declared.event.Actor.{Actor}
 use Rattle.and_events.specs.declared.event.Event.{Event}
 use Rattle.and_events.specs.declared.event.Held.{Held}
@@ -11,10 +12,11 @@ use Rattle.and_events.specs.declared.event.Queue.{Queue}
 use Rattle.and_events.specs.declared.plan.Plan.{Plan}
 use Rattle.and_events.specs.Places.{hand_place, node_of, seat_of, actor_of, IsActor, Handles}
 use Rattle.and_events.specs.Flow.{Move, Send, SealLater, Stop, Stay, Enter, Lose, Grab, flow_after, hand_at}
-use Rattle.and_events.specs.State.{State, state, move_of, tuple_at}
+use Rattle.and_events.specs.State.{State, state, move_of, packet_at, tuple_at}
 use Rattle.and_events.specs.Legal.{Legal}
 use Rattle.and_events.specs.Run.{past}
 use Rattle.and_laws.proofs.Losses.{held_is_known}
+use Rattle.and_laws.proofs.Sourced.{source_stays}
 use Rattle.and_kept.specs.declared.traffic.Holder.{Holder}
 use Rattle.and_kept.specs.Moves.{MayMove, moved}
 use Rattle.and_book.specs.Inside.{Kept, Keeps}
@@ -50,6 +52,12 @@ module _ (plan : Plan) (threads : ℕ) (lines : List Line) (k : Kept) (spare : �
   pub known_packet : p.packet < length plan.packets
   known_packet = held_is_known plan (past lines) (hand_place plan.settings a) p.packet keeps.sound keeps.run (held, has, refl)
 
+  -- the network of its VM in the log so far is that in the plan's
+  pub own_net : net_of_vm k.progress.programmes.log (packet_at plan p.packet).vm ≡ net_of_vm plan.log (packet_at plan p.packet).vm
+  own_net =
+      ap (λ x. net_of_vm x.log (packet_at plan p.packet).vm) keeps.stands.programmes
+      ∙ source_stays plan (past lines) (hand_place plan.settings a) p.packet keeps.sound keeps.run (held, has, refl)
+
   -- the actor may move what it has in hand
   pub may_move : (from : Holder) → IsActor plan.settings a → Handles a → from.actor ≡ a → MayMove k.roads from p
   may_move from is t same = record {
@@ -74,8 +82,6 @@ module _ (plan : Plan) (threads : ℕ) (lines : List Line) (k : Kept) (spare : �
         stands = stands_settled plan s e k roads' settling keeps.stands refl (ap (λ f. flow_after f m) keeps.stands.flow ∙ ap (flow_after s.flow) move);
         settings = refl;
         limit = refl;
-        vms = refl;
-        nets = refl;
       })
       (settles plan (past lines) e a need q p (node_of from.actor) from.tuple m k.roads roads' keeps.sound keeps.built keeps.run legal ok has keeps.stands.flow node
       (ap (λ (f : Holder). f.tuple) is) move (of_from (hand_place plan.settings a) p.packet m by) refl refl keeps.parcels)

@@ -32,26 +32,22 @@ pub legal_installed : (plan : Plan) (s : State) (node : Node) (upto : ℕ) → C
 unfolding Legal
 legal_installed plan s node upto can is = (can, is)
 
-pub after_announce : (plan : Plan) (s : State) (k : Kept) (p : Progressed) (node : Node) (place upto : ℕ) → Stands k s → place ≡ node_place plan.settings node → p.programmes ≡ programmes_after k.progress.programmes (Announces place upto) → p.limit ≡ k.progress.limit → p.vms ≡ k.progress.vms → p.held ≡ k.progress.held → IsAfter plan s (Announce node upto) k (record k { progress = p })
+pub after_announce : (plan : Plan) (s : State) (k : Kept) (p : Progressed) (node : Node) (place upto : ℕ) → Stands k s → place ≡ node_place plan.settings node → p.programmes ≡ programmes_after k.progress.programmes (Announces place upto) → p.limit ≡ k.progress.limit → p.held ≡ k.progress.held → IsAfter plan s (Announce node upto) k (record k { progress = p })
 unfolding after holds_after move_of word_of ports_move_of step_of flow_after ports_after
-after_announce plan s k p node place upto st there is limit vms marks =
+after_announce plan s k p node place upto st there is limit marks =
     record {
       stands = record { next = st.next; programmes = is ∙ (ap (λ q. programmes_after q (Announces place upto)) st.programmes ∙ ap (λ n. programmes_after s.programmes (Announces n upto)) there); ports = st.ports; flow = st.flow; holds = ap (λ marks. record { install = marks; forward = k.roads.held }) marks ∙ st.holds };
       settings = refl;
       limit = limit;
-      vms = vms;
-      nets = refl;
     }
 
-pub after_installed : (plan : Plan) (s : State) (k : Kept) (p : Progressed) (node : Node) (place upto : ℕ) → Stands k s → place ≡ node_place plan.settings node → p.programmes ≡ programmes_after k.progress.programmes (Installs place upto) → p.limit ≡ k.progress.limit → p.vms ≡ k.progress.vms → p.held ≡ k.progress.held → IsAfter plan s (Installed node upto) k (record k { progress = p })
+pub after_installed : (plan : Plan) (s : State) (k : Kept) (p : Progressed) (node : Node) (place upto : ℕ) → Stands k s → place ≡ node_place plan.settings node → p.programmes ≡ programmes_after k.progress.programmes (Installs place upto) → p.limit ≡ k.progress.limit → p.held ≡ k.progress.held → IsAfter plan s (Installed node upto) k (record k { progress = p })
 unfolding after holds_after move_of word_of ports_move_of step_of flow_after ports_after
-after_installed plan s k p node place upto st there is limit vms marks =
+after_installed plan s k p node place upto st there is limit marks =
     record {
       stands = record { next = st.next; programmes = is ∙ (ap (λ q. programmes_after q (Installs place upto)) st.programmes ∙ ap (λ n. programmes_after s.programmes (Installs n upto)) there); ports = st.ports; flow = st.flow; holds = ap (λ marks. record { install = marks; forward = k.roads.held }) marks ∙ st.holds };
       settings = refl;
       limit = limit;
-      vms = vms;
-      nets = refl;
     }
 
 -- the length of the programme, and what is announced, as they are kept
@@ -77,20 +73,20 @@ legal_finish plan s n is due can = steps_due plan s n steps.Finish is due can
 pub after_wait : (plan : Plan) (s : State) (k : Kept) (n : ℕ) → Stands k s → IsAfter plan s (Wait n) k (record k { next = k.next + 1 })
 unfolding after holds_after move_of word_of ports_move_of step_of flow_after ports_after programmes_after
 after_wait plan s k n st =
-    record { stands = record { next = ap (λ m. m + 1) st.next; programmes = st.programmes; ports = st.ports; flow = st.flow; holds = st.holds }; settings = refl; limit = refl; vms = refl; nets = refl }
+    record { stands = record { next = ap (λ m. m + 1) st.next; programmes = st.programmes; ports = st.ports; flow = st.flow; holds = st.holds }; settings = refl; limit = refl }
 
 pub after_finish : (plan : Plan) (s : State) (k : Kept) (n : ℕ) → Stands k s → IsAfter plan s (Finish n) k (record k { next = k.next + 1 })
 unfolding after holds_after move_of word_of ports_move_of step_of flow_after ports_after programmes_after
 after_finish plan s k n st =
-    record { stands = record { next = ap (λ m. m + 1) st.next; programmes = st.programmes; ports = st.ports; flow = st.flow; holds = st.holds }; settings = refl; limit = refl; vms = refl; nets = refl }
+    record { stands = record { next = ap (λ m. m + 1) st.next; programmes = st.programmes; ports = st.ports; flow = st.flow; holds = st.holds }; settings = refl; limit = refl }
 
 pub legal_append : (plan : Plan) (s : State) (n : ℕ) (e : Entry) → n ≡ s.next → slice_get plan.steps n ≡ Some (steps.Append e) → Legal plan s (Append n)
 unfolding Legal
 legal_append plan s n e is due = (e, (is, due, tt))
 
-pub after_append : (plan : Plan) (s : State) (k : Kept) (p : Progressed) (ports : List (List Port)) (n : ℕ) (e : Entry) → Stands k s → slice_get plan.steps n ≡ Some (steps.Append e) → p.programmes ≡ programmes_after k.progress.programmes (Logs e) → ports ≡ ports_after k.ports (ports_move_of_entry e) → p.limit ≡ k.progress.limit → p.vms ≡ k.progress.vms → p.held ≡ k.progress.held → IsAfter plan s (Append n) k (record k { next = k.next + 1; progress = p; ports = ports })
+pub after_append : (plan : Plan) (s : State) (k : Kept) (p : Progressed) (ports : List (List Port)) (n : ℕ) (e : Entry) → Stands k s → slice_get plan.steps n ≡ Some (steps.Append e) → p.programmes ≡ programmes_after k.progress.programmes (Logs e) → ports ≡ ports_after k.ports (ports_move_of_entry e) → p.limit ≡ k.progress.limit → p.held ≡ k.progress.held → IsAfter plan s (Append n) k (record k { next = k.next + 1; progress = p; ports = ports })
 unfolding after holds_after move_of word_of ports_move_of step_of flow_after
-after_append plan s k p ports n e st due logged moved limit vms marks =
+after_append plan s k p ports n e st due logged moved limit marks =
     record {
       stands = record {
         next = ap (λ m. m + 1) st.next;
@@ -101,8 +97,6 @@ after_append plan s k p ports n e st due logged moved limit vms marks =
       };
       settings = refl;
       limit = limit;
-      vms = vms;
-      nets = refl;
     }
 
 pub legal_inject : (plan : Plan) (s : State) (n i : ℕ) (full : Bool) → n ≡ s.next → slice_get plan.steps s.next ≡ Some (steps.Inject i) → KnowsVm plan s (home plan s i) (packet_at plan i).vm → EndsAt plan s (queue_place plan.settings (Host (home plan s i)) Out) (inject_end full) → Legal plan s (Inject n i full)
@@ -123,8 +117,6 @@ after_inject plan s k n host p full st settings there =
       };
       settings = refl;
       limit = refl;
-      vms = refl;
-      nets = refl;
     }
 
 -- a packet that comes from outside is in no hand

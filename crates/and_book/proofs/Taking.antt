@@ -80,8 +80,6 @@ after_take plan s k a held st settings need =
       };
       settings = refl;
       limit = refl;
-      vms = refl;
-      nets = refl;
     }
 
 -- one more hand is full

@@ -12,7 +12,7 @@ use Rattle.and_events.specs.Places.{node_count, hand_count, IsActor}
 use Rattle.and_events.specs.Flow.{Flow}
 use Rattle.and_events.specs.Programming.{Programmes, HasInstalled, programme_at, installed_at}
 use Rattle.and_events.specs.State.{NodeHolds, no_packet}
-use Rattle.and_events.specs.Legal.{added_at}
+use Rattle.and_policy.specs.Programmes.{added_at}
 use Rattle.and_kept.specs.Busy.{is_busy}
 use Rattle.and_kept.specs.Moves.{IsBusy}
 use Rattle.and_kept.specs.Lanes.{Roads}
@@ -40,10 +40,10 @@ CanDo v packets p f (Some Wait) = IsStill p f
 CanDo v packets p f (Some Finish) = IsStill p f
 CanDo v packets p f _ = ⊥
 
--- what a step injects is a packet of one of so many VMs
-abbrev pub IsInjectable : List Packet → ℕ → Option Step → Type 0
-IsInjectable packets vms (Some (Inject i)) = (i < length packets) × (vm_in packets i < vms)
-IsInjectable packets vms _ = Unit {0}
+-- what a step injects is one of the packets
+abbrev pub IsInjectable : List Packet → Option Step → Type 0
+IsInjectable packets (Some (Inject i)) = i < length packets
+IsInjectable packets _ = Unit {0}
 
 -- the actor may act
 abbrev pub Acts : Settings → List Packet → Programmes → NodeHolds → Flow → Option Step → Actor → Type 0

@@ -18,7 +18,6 @@ use Rattle.and_kept.specs.Nodes.{Progressed}
 use Rattle.and_book.specs.declared.book.Book.TheInside.{Inside}
 use Rattle.and_book.specs.Views.{BookView, IsPacket}
 use Rattle.and_events.specs.Places.{IsSmall}
-use Rattle.and_book.specs.Nets.{HasNets}
 use Rattle.and_book.specs.Outers.{IsSentBy}
 
 -- what is kept of the state
@@ -27,10 +26,9 @@ pub record Kept : Type 0 where
   pub progress : Progressed
   pub ports : List (List Port)
   pub roads : Roads
-  pub nets : List ℕ
 
 abbrev pub kept_of : Inside → Kept
-kept_of b = record { next = b.next; progress = b.progress; ports = b.ports; roads = b.traffic; nets = b.nets.items }
+kept_of b = record { next = b.next; progress = b.progress; ports = b.ports; roads = b.traffic }
 
 -- what is held at the nodes
 abbrev pub holds_of : Kept → NodeHolds
@@ -47,12 +45,10 @@ pub record Stands (k : Kept) (s : State) : Type 0 where
   pub flow : k.roads.flow ≡ s.flow
   pub holds : holds_of k ≡ s.node_holds
 
--- what never changes in it: the settings, for how many entries and VMs there is room, and the VMs' networks
+-- what never changes in it: the settings, and for how many entries there is room
 pub record IsSized (plan : Plan) (k : Kept) : Type 0 where
   pub settings : k.roads.settings ≡ plan.settings
   pub limit : k.progress.limit ≡ length plan.log
-  pub vms : k.progress.vms ≡ length plan.names
-  pub nets : HasNets k.nets plan.log
 
 -- each parcel in a queue has its packet's frame, the queues' packets are those of the parcels, and what came to a node by its
 -- `wire` queue has the outer bytes of its packet's newest send

@@ -8,7 +8,6 @@ ghost use Rattle.and_laws.specs.Fates.{HasOneFateOrPlace};
 ghost use Rattle.and_book.specs.Tales.{newest_first, KeepSeats};
 ghost use Rattle.and_book.specs.Views.{held};
 
-use crate::nets::nets_of;
 use and_events::{Line, Plan};
 use and_kept::{Progress, Traffic, count_hands, count_nodes};
 use and_policy::NoMemory;
@@ -27,7 +26,6 @@ pub struct Book {
     pub(crate) progress: Progress,
     pub(crate) ports: Ports,
     pub(crate) traffic: Traffic,
-    pub(crate) nets: Vec<u32>,
 }
 
 impl Model for Book {
@@ -73,9 +71,8 @@ impl Book {
         let settings = plan.settings;
         let traffic = Traffic::make(alloc, settings, plan.packets.len())?;
         let nodes = count_nodes(settings) as usize;
-        let progress = Progress::make(alloc, nodes, plan.log.len() as u32, plan.names.len())?;
+        let progress = Progress::make(alloc, nodes, plan.log.len() as u32)?;
         let ports = Ports::make(alloc, settings.hosts, plan.names.len() as u32)?;
-        let nets = nets_of(alloc, plan.log.as_slice(), plan.names.len())?;
         Ok(Book {
             plan,
             threads,
@@ -84,7 +81,6 @@ impl Book {
             progress,
             ports,
             traffic,
-            nets,
         })
     }
 

@@ -17,8 +17,7 @@ fn is_still(progress: &Progress, traffic: &Traffic) -> bool
 
 // Whether the host where the VM is has installed the entry that added it.
 fn is_known_at_home(progress: &Progress, hosts: u32, vm: u32) -> bool
-    requires vm { vm < progress.now.vms }
-    requires nodes { hosts ≤ length progress.now.programmes.ops }
+    requires { hosts ≤ length progress.now.programmes.ops }
     ensures { IsTrue result ↔ IsKnownAtHome progress.now.programmes hosts vm }
 {
     let host = progress.place(vm).unwrap_or(0);
@@ -47,7 +46,7 @@ pub(crate) fn can_do(
     due: Option<Step>,
 ) -> bool
     requires nodes { length progress.now.programmes.ops ≡ node_count traffic.now.settings }
-    requires injectable { IsInjectable packets.now progress.now.vms due }
+    requires injectable { IsInjectable packets.now due }
     ensures { IsTrue result ↔ CanDo traffic.now.settings packets.now progress.now.programmes traffic.now.flow due }
 {
     match due {
@@ -69,7 +68,7 @@ fn acts(
     actor: Actor,
 ) -> bool
     requires nodes { length progress.now.programmes.ops ≡ node_count traffic.now.settings }
-    requires injectable { IsInjectable packets.now progress.now.vms due }
+    requires injectable { IsInjectable packets.now due }
     requires actor { IsActor traffic.now.settings actor }
     ensures { IsTrue result ↔ Acts traffic.now.settings packets.now progress.now.programmes (record { install = progress.now.held; forward = traffic.now.held }) traffic.now.flow due actor }
 {
@@ -93,7 +92,7 @@ pub(crate) fn can_act(
     actor: Actor,
 ) -> bool
     requires nodes { length progress.now.programmes.ops ≡ node_count traffic.now.settings }
-    requires injectable { IsInjectable packets.now progress.now.vms due }
+    requires injectable { IsInjectable packets.now due }
     ensures { IsTrue result ↔ CanAct traffic.now.settings packets.now progress.now.programmes (record { install = progress.now.held; forward = traffic.now.held }) traffic.now.flow due actor }
 {
     is_actor(traffic.settings(), actor) && acts(packets, progress, traffic, due, actor)

@@ -15,7 +15,6 @@ mod book;
 mod enabling;
 mod installs;
 mod looks;
-mod nets;
 mod packets;
 mod steps;
 

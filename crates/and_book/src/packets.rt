@@ -10,7 +10,6 @@ ghost use Rattle.and_book.specs.Settling.{MaySettleGateway, MaySettleIngress, in
 ghost use Rattle.and_book.specs.Views.{now, held, IsSeat, with_line, MayTake, IsPacket};
 
 use crate::book::Book;
-use crate::nets::net_of;
 use and_events::{Actor, Event, Held, Items, Line, Packet, Queue, node_of, node_place};
 use and_kept::{Holder, settle_gate, settle_landing, settle_leaving};
 use and_parcel::Parcel;
@@ -98,7 +97,7 @@ impl Book {
     {
         let packet = parcel.packet();
         let from = holder(&self.plan.packets, actor, packet);
-        let own = net_of(&self.nets, parcel.vm());
+        let own = self.progress.net(parcel.vm()).unwrap_or(0);
         let said = leaving_in(decision.outcome);
         let departure = settle_leaving(&mut self.traffic, from, own, parcel, said);
         self.lines.push_reserved(Line {

@@ -1,8 +1,7 @@
 -- When an event is legal, and when an actor is enabled. A step's event is legal only for the plan's next step.
-use Rattle.std.specs.Prelude.{◌≡◌, ◌≢◌, ℕ, suc, ◌+◌, ◌<◌, ◌≤◌, ◌⊎◌, Bool, true, false, ◌==◌, List, [], ◌∷◌, length, slice_get, slice_index_or, Option, Some, None, option_map, position}
+use Rattle.std.specs.Prelude.{◌≡◌, ◌≢◌, ℕ, ◌+◌, ◌<◌, ◌≤◌, ◌⊎◌, Bool, true, false, List, [], ◌∷◌, length, slice_get, slice_index_or, Some, None}
 use Rattle.std.specs.List.{All}
 use Rattle.and_policy.specs.declared.entry.Entry.{Entry}
-use Rattle.and_policy.specs.declared.entry.Entry.TheVariants as entries
 use Rattle.and_policy.specs.declared.decision.Name.{Name}
 use Rattle.and_policy.specs.declared.decision.Leaving.{Leaving}
 use Rattle.and_policy.specs.declared.decision.Leaving.TheVariants as leavings
@@ -17,7 +16,7 @@ use Rattle.and_policy.specs.declared.port.Port.TheVariants as port_states
 use Rattle.and_policy.specs.Owners.{place, routed, located}
 use Rattle.and_policy.specs.Ingress.{landing}
 use Rattle.and_policy.specs.FlowHash.{gateway_of}
-use Rattle.and_policy.specs.Programmes.{prefix, leaving}
+use Rattle.and_policy.specs.Programmes.{prefix, leaving, added_at}
 use Rattle.and_events.specs.declared.event.Node.{Node}
 use Rattle.and_events.specs.declared.event.Node.TheVariants.{Host, Gate}
 use Rattle.and_events.specs.declared.event.Endpoint.{Endpoint}
@@ -72,14 +71,6 @@ install_held plan s node = slice_index_or s.node_holds.install (node_place plan.
 
 abbrev pub forward_held : Plan → State → Node → Bool
 forward_held plan s node = slice_index_or s.node_holds.forward (node_place plan.settings node) false
-
-abbrev pub adds : ℕ → Entry → Bool
-adds vm (entries.AddVm v net mac ip host) = v == vm
-adds vm _ = false
-
--- the number of the VM's AddVm entry in the log, from 1
-abbrev pub added_at : List Entry → ℕ → Option ℕ
-added_at log vm = option_map suc (position (adds vm) log)
 
 -- the host has installed the VM's AddVm entry
 abbrev pub KnowsVm : Plan → State → ℕ → ℕ → Type 0

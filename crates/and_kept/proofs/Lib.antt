@@ -1,7 +1,6 @@
 pub mod Counts
 pub mod LanesLemmas
 pub mod HandsLemmas
-pub mod HomesLemmas
 pub mod NodesLemmas
 pub mod MovesLemmas
 pub mod NumbersLemmas

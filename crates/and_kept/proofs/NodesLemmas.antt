@@ -1,5 +1,5 @@
 -- Programmes after an operation more, an announcement and an install.
-use Rattle.std.proofs.Common.{◌≡◌, ℕ, zero, suc, ◌+◌, ◌-◌, ◌<◌, ◌≤◌, ◌==◌, ◌↔◌, ◌^◌, Bool, true, false, not, cond, IsTrue, List, [], ◌∷◌, ◌++◌, length, get_or, set, take, drop, map, refl, sym, ap, ◌∙◌, subst, arith, replicate, Option, None}
+use Rattle.std.proofs.Common.{◌≡◌, ℕ, zero, suc, ◌+◌, ◌-◌, ◌<◌, ◌≤◌, ◌==◌, ◌↔◌, ◌^◌, Bool, true, false, not, cond, IsTrue, List, [], ◌∷◌, ◌++◌, length, get_or, set, take, drop, map, refl, sym, ap, ◌∙◌, subst, arith, replicate}
 use Rattle.std.specs.Prelude.{nat_eq}
 use Rattle.std.specs.List.{All, count_by}
 use Rattle.std.proofs.lemmas.Bool.{eqb-true, eq-eqb, not-false}
@@ -11,9 +11,12 @@ use Rattle.std.proofs.lemmas.List.Elements.{All-nil, All-replicate, All-map, All
 use Rattle.and_policy.specs.declared.entry.Entry.{Entry}
 use Rattle.and_policy.specs.declared.entry.Op.{Op}
 use Rattle.and_policy.specs.declared.entry.Op.TheVariants as ops
+use Rattle.and_policy.specs.Placements as placements
+use Rattle.and_policy.specs.Placements.{ArePlacements}
 use Rattle.and_policy.specs.Programmes.{entries, prefix}
+use Rattle.and_policy.specs.declared.placements.Placements.{Placements}
 use Rattle.and_events.specs.Programming.{Programmes, Logs, Announces, Installs, programmes_after, programme_at, installed_at}
-use Rattle.and_kept.specs.Nodes.{Programmed, with_entry, is_behind, CountsEntries, IsProgrammed, programmes_of, no_programme, node_at, HomesView, IsHomes, IsProgress}
+use Rattle.and_kept.specs.Nodes.{Programmed, with_entry, is_behind, CountsEntries, IsProgrammed, programmes_of, no_programme, node_at, IsProgress}
 use Rattle.and_kept.proofs.Counts.{count_none, none_counted}
 
 -- ---- one programme
@@ -123,19 +126,24 @@ pub has_room : (log : List Entry) (nodes : List Programmed) (limit : ℕ) → le
 has_room log nodes limit h rooms =
     All-weaker (λ (n : Programmed). length n.ops + (limit - length log) ≤ n.limit) (λ n. length n.ops < n.limit) (λ n r. omega (arith, h, r)) nodes rooms
 
-pub progress_more : (log log' : List Entry) (nodes nodes' : List Programmed) (homes homes' : HomesView) (e : Entry) (count count' limit capacity capacity' : ℕ) → IsProgress log nodes homes count limit capacity → length log < limit → log' ≡ log ++ e ∷ [] → nodes' ≡ map (with_entry e) nodes → All (λ n. is_behind n ≡ true) nodes' → count' ≡ length nodes' → capacity' ≡ capacity → IsHomes homes' (log ++ e ∷ []) → IsProgress log' nodes' homes' count' limit capacity'
-progress_more log log' nodes nodes' homes homes' e count count' limit capacity capacity' p h longer all behind counted same known =
+-- the placements have room for one entry where the log has
+pub room_for : (limit : ℕ) (log : List Entry) (p : Placements) → length log < limit → placements.HasRoom (limit - length log) p → placements.HasRoom 1 p
+room_for limit log p h room = record { additions = omega (arith, h, room.additions); hosts = omega (arith, h, room.hosts) }
+
+pub progress_more : (log log' : List Entry) (nodes nodes' : List Programmed) (p p' : Placements) (e : Entry) (count count' limit capacity capacity' : ℕ) → IsProgress log nodes p count limit capacity → length log < limit → log' ≡ log ++ e ∷ [] → nodes' ≡ map (with_entry e) nodes → All (λ n. is_behind n ≡ true) nodes' → count' ≡ length nodes' → capacity' ≡ capacity → ArePlacements p' (log ++ e ∷ []) → ((n : ℕ) → placements.HasRoom (n + 1) p → placements.HasRoom n p') → IsProgress log' nodes' p' count' limit capacity'
+progress_more log log' nodes nodes' p p' e count count' limit capacity capacity' is h longer all behind counted same placed less =
     let long : length log' ≡ length log + 1 = omega (arith, ap length longer, length-append log (e ∷ [])) in
     record {
       behind = counted ∙ sym (all_counted is_behind nodes' behind);
       rooms = subst (λ ns. All (λ (n : Programmed). length n.ops + (limit - length log') ≤ n.limit) ns) (sym all)
           (All-map (λ (n : Programmed). length n.ops + (limit - length log') ≤ n.limit) (with_entry e) nodes
           (All-weaker (λ (n : Programmed). length n.ops + (limit - length log) ≤ n.limit) (λ n. length (with_entry e n).ops + (limit - length log') ≤ n.limit)
-          (λ n r. subst (λ k. length (with_entry e n).ops + (limit - k) ≤ n.limit) (sym long) (room_more e limit (length log) n h r)) nodes p.rooms));
-      homes_are = subst (IsHomes homes') (sym longer) known;
+          (λ n r. subst (λ k. length (with_entry e n).ops + (limit - k) ≤ n.limit) (sym long) (room_more e limit (length log) n h r)) nodes is.rooms));
+      placed = subst (ArePlacements p') (sym longer) placed;
+      room = less (limit - length log') (subst (λ n. placements.HasRoom n p) (omega (arith, long, h)) is.room);
       logged = omega (arith, long, h);
-      reserved = omega (arith, p.reserved, same);
-      small = p.small;
+      reserved = omega (arith, is.reserved, same);
+      small = is.small;
     }
 
 map_twice : {X Y Z : Type 0} (f : X → Y) (g : Y → Z) (xs : List X) → map g (map f xs) ≡ map (λ x. g (f x)) xs
@@ -197,29 +205,20 @@ room_there e before nodes i h have rooms =
 abbrev pub new_programme : ℕ → Programmed
 new_programme limit = record { ops = []; announced = 0; installed = 0; limit = limit }
 
-pub homes_start : (vms : ℕ) → IsHomes (record { added = replicate vms None; places = replicate vms None }) []
-homes_start vms =
-    let none : Option ℕ = None in
-    record {
-      same = refl;
-      added_are = λ vm h. All-replicate (λ a. a ≡ none) vms none refl vm none h;
-      places_are = λ vm h. All-replicate (λ a. a ≡ none) vms none refl vm none h;
-    }
-
-pub progress_start : (log : List Entry) (nodes : List Programmed) (homes : HomesView) (count limit capacity vms : ℕ) → log ≡ [] → nodes ≡ replicate count (new_programme limit) → homes ≡ record { added = replicate vms None; places = replicate vms None } → limit ≤ capacity → limit < 2 ^ 32 → IsProgress log nodes homes 0 limit capacity
-progress_start log nodes homes count limit capacity vms none all known reserved small =
+pub progress_start : (log : List Entry) (nodes : List Programmed) (p : Placements) (count limit capacity : ℕ) → log ≡ [] → nodes ≡ replicate count (new_programme limit) → ArePlacements p [] → placements.HasRoom limit p → limit ≤ capacity → limit < 2 ^ 32 → IsProgress log nodes p 0 limit capacity
+progress_start log nodes p count limit capacity none all placed room reserved small =
     let new = new_programme limit in
-    subst (λ l. IsProgress l nodes homes 0 limit capacity) (sym none)
-    (subst (λ ns. IsProgress [] ns homes 0 limit capacity) (sym all)
-    (subst (λ h. IsProgress [] (replicate count new) h 0 limit capacity) (sym known)
+    subst (λ l. IsProgress l nodes p 0 limit capacity) (sym none)
+    (subst (λ ns. IsProgress [] ns p 0 limit capacity) (sym all)
     (record {
       behind = sym (none_counted is_behind (replicate count new) (All-replicate (λ n. is_behind n ≡ false) count new refl));
       rooms = All-replicate (λ (n : Programmed). length n.ops + (limit - 0) ≤ n.limit) count new (omega arith);
-      homes_are = homes_start vms;
+      placed = placed;
+      room = subst (λ n. placements.HasRoom n p) (omega arith) room;
       logged = omega arith;
       reserved = reserved;
       small = small;
-    })))
+    }))
 
 map_same : {X Y : Type 0} (f : X → Y) (n : ℕ) (x : X) → map f (replicate n x) ≡ replicate n (f x)
 map_same f zero x = refl

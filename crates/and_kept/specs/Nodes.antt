@@ -1,13 +1,14 @@
 -- A node's programme, and all nodes', as contracts see them.
-use Rattle.std.specs.Prelude.{◌≡◌, ℕ, ◌+◌, ◌-◌, ◌<◌, ◌≤◌, ◌^◌, ◌==◌, ◌&&◌, ◌||◌, nat_lt, not, Bool, false, List, [], ◌∷◌, ◌++◌, length, map, Option, None, slice_index_or}
+use Rattle.std.specs.Prelude.{◌≡◌, ℕ, ◌+◌, ◌-◌, ◌<◌, ◌≤◌, ◌^◌, ◌==◌, ◌&&◌, ◌||◌, nat_lt, not, Bool, false, List, [], ◌∷◌, ◌++◌, length, map, slice_index_or}
 use Rattle.std.specs.List.{All, count_by}
 use Rattle.and_policy.specs.declared.entry.Entry.{Entry}
 use Rattle.and_policy.specs.declared.entry.Op.{Op}
 use Rattle.and_policy.specs.declared.entry.Op.TheVariants as ops
-use Rattle.and_policy.specs.Owners.{place}
+use Rattle.and_policy.specs.Placements as placements
+use Rattle.and_policy.specs.Placements.{ArePlacements}
+use Rattle.and_policy.specs.declared.placements.Placements.{Placements}
 use Rattle.and_policy.specs.Programmes.{entries, prefix}
 use Rattle.and_events.specs.Programming.{Programmes, programme_at, announced_at, installed_at}
-use Rattle.and_events.specs.Legal.{added_at}
 use Rattle.and_kept.specs.Numbers.{Numbers, has}
 
 -- ---- one node
@@ -41,26 +42,12 @@ pub record IsProgrammed (n : Programmed) (capacity : ℕ) : Type 0 where
   pub reserved : n.limit ≤ capacity
   pub small : n.limit < 2 ^ 32
 
--- ---- where VMs are
-
--- by VM: the number of the entry that added it, and the host that it came to last
-pub record HomesView : Type 0 where
-  pub added : List (Option ℕ)
-  pub places : List (Option ℕ)
-
--- that is what the log says
-pub record IsHomes (h : HomesView) (log : List Entry) : Type 0 where
-  pub same : length h.places ≡ length h.added
-  pub added_are : (vm : ℕ) → vm < length h.added → slice_index_or h.added vm None ≡ added_at log vm
-  pub places_are : (vm : ℕ) → vm < length h.added → slice_index_or h.places vm None ≡ place log vm
-
 -- ---- all nodes
 
--- the log and the programmes, how many entries the log has room for, and of how many VMs it is kept where they are
+-- the log and the programmes, and how many entries the log has room for
 pub record NodesView : Type 0 where
   pub programmes : Programmes
   pub limit : ℕ
-  pub vms : ℕ
 
 abbrev pub programmes_of : List Entry → List Programmed → Programmes
 programmes_of log nodes =
@@ -72,23 +59,22 @@ no_programme = record { ops = []; announced = 0; installed = 0; limit = 0 }
 abbrev pub node_at : List Programmed → ℕ → Programmed
 node_at nodes i = slice_index_or nodes i no_programme
 
--- so many nodes are behind, and each has room for the entries that the log still has room for
-pub record IsProgress (log : List Entry) (nodes : List Programmed) (homes : HomesView) (count limit capacity : ℕ) : Type 0 where
+-- so many nodes are behind, and each has room for the entries that the log still has room for, as have the placements of its VMs
+pub record IsProgress (log : List Entry) (nodes : List Programmed) (p : Placements) (count limit capacity : ℕ) : Type 0 where
   pub behind : count ≡ count_by is_behind nodes
   pub rooms : All (λ n. length n.ops + (limit - length log) ≤ n.limit) nodes
-  pub homes_are : IsHomes homes log
+  pub placed : ArePlacements p log
+  pub room : placements.HasRoom (limit - length log) p
   pub logged : length log ≤ limit
   pub reserved : limit ≤ capacity
   pub small : limit < 2 ^ 32
 
 -- ---- who may announce or install
 
--- the log and the programmes, how many entries the log has room for, of how many VMs it is kept where they are, and at which
--- nodes installs are held
+-- the log and the programmes, how many entries the log has room for, and at which nodes installs are held
 pub record Progressed : Type 0 where
   pub programmes : Programmes
   pub limit : ℕ
-  pub vms : ℕ
   pub held : List Bool
 
 -- the installer of the node at this place may announce, or has announced something that is not installed

@@ -17,7 +17,6 @@ mod busy;
 mod count;
 mod hall;
 mod hands;
-mod homes;
 mod nodes;
 mod numbers;
 mod outers;

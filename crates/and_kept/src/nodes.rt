@@ -2,64 +2,56 @@
 ghost use Rattle.std.specs.Prelude.{◌≡◌, ℕ, ◌+◌, ◌-◌, ◌<◌, ◌≤◌, ◌↔◌, ◌^◌, List, [], ◌∷◌, ◌++◌, length, map, true, IsTrue, IfOk, replicate, slice_set};
 ghost use Rattle.std.specs.List.{All};
 ghost use Rattle.and_policy.specs.Owners as owners;
+ghost use Rattle.and_policy.specs.Programmes as programmes;
 ghost use Rattle.and_events.specs.Programming.{Logs, Announces, Installs, HasInstalled, programmes_after, programme_at, announced_at, installed_at};
-ghost use Rattle.and_events.specs.Legal as legal;
 ghost use Rattle.and_kept.specs.Nodes.{Programmed, with_entry, is_behind, node_at};
 
 use crate::count::one_if;
-use crate::homes::Homes;
 use crate::programme::Programme;
-use and_policy::{Entry, NoMemory, Op};
+use and_policy::{Entry, NoMemory, Op, Placements};
 use std::alloc::Global;
 use std::marker::Model;
 
 /// The log, and each node's programme with how much of it is announced and installed. Nodes go by their places.
 ///
-/// Contracts see it as the definition's component, beside the number of entries that the log has room for and the number
-/// of VMs of which it is kept where they are.
+/// Contracts see it as the definition's component, beside the number of entries that the log has room for.
 #[derive(Drop)]
 pub(crate) struct Nodes {
     log: Vec<Entry>,
     nodes: Vec<Programme>,
-    homes: Homes,
+    placements: Placements,
     behind: usize,
     limit: u32,
 }
 
 impl Model for Nodes {
-    ghost use Rattle.std.specs.Prelude.{length, vec_capacity};
+    ghost use Rattle.std.specs.Prelude.{vec_capacity};
     ghost use Rattle.and_kept.specs.Nodes.{NodesView, programmes_of, IsProgress};
 
     ghost Value = { NodesView };
 
-    ghost view = { λ p. record { programmes = programmes_of p.log.items p.nodes.items; limit = p.limit; vms = length p.homes.added } };
+    ghost view = { λ p. record { programmes = programmes_of p.log.items p.nodes.items; limit = p.limit } };
 
-    ghost invariant = { λ p. IsProgress p.log.items p.nodes.items p.homes p.behind p.limit (vec_capacity p.log) };
+    ghost invariant = { λ p. IsProgress p.log.items p.nodes.items p.placements p.behind p.limit (vec_capacity p.log) };
 }
 
 #[tactic(auto, unfolding(and_events::specs::Programming::programmes_after))]
 impl Nodes {
-    /// An empty log with room for `limit` entries, so many nodes with empty programmes, and so many VMs. All memory is
-    /// taken here.
-    pub(crate) fn make(
-        alloc: Global,
-        nodes: usize,
-        limit: u32,
-        vms: usize,
-    ) -> Result<Nodes, NoMemory>
+    /// An empty log with room for `limit` entries, and so many nodes with empty programmes. All memory is taken here.
+    pub(crate) fn make(alloc: Global, nodes: usize, limit: u32) -> Result<Nodes, NoMemory>
         ensures programmes { IfOk result (λ p. p.programmes ≡ record { log = []; ops = replicate nodes []; announced = replicate nodes 0; installed = replicate nodes 0 }) }
         ensures limit { IfOk result (λ p. p.limit ≡ limit) }
-        ensures vms { IfOk result (λ p. p.vms ≡ vms) }
     {
         let Ok(log) = Vec::with_capacity(alloc, limit as usize) else {
             return Err(NoMemory);
         };
-        let homes = Homes::make(alloc, vms)?;
+        let mut placements = Placements::new(alloc);
+        placements.room(limit as usize)?;
         let nodes = make_nodes(alloc, nodes, limit)?;
         Ok(Nodes {
             log,
             nodes,
-            homes,
+            placements,
             behind: 0,
             limit,
         })
@@ -116,20 +108,25 @@ impl Nodes {
         self.behind == 0
     }
 
+    /// The network to which the log added the VM.
+    pub(crate) fn net(&self, vm: u32) -> Option<u32>
+        ensures { result ≡ programmes.net_of_vm self.now.programmes.log vm }
+    {
+        self.placements.net(vm)
+    }
+
     /// The number of the log entry that added the VM, from 1.
     pub(crate) fn added(&self, vm: u32) -> Option<u32>
-        requires { vm < self.now.vms }
-        ensures { result ≡ legal.added_at self.now.programmes.log vm }
+        ensures { result ≡ programmes.added_at self.now.programmes.log vm }
     {
-        self.homes.added(vm as usize)
+        self.placements.added(vm)
     }
 
     /// The host where the VM is under the log.
     pub(crate) fn place(&self, vm: u32) -> Option<u32>
-        requires { vm < self.now.vms }
         ensures { result ≡ owners.place self.now.programmes.log vm }
     {
-        self.homes.place(vm as usize)
+        self.placements.place(vm)
     }
 
     /// The log and each programme get an entry.
@@ -137,13 +134,11 @@ impl Nodes {
         requires { length self.old.programmes.log < self.old.limit }
         ensures programmes { self.new.programmes ≡ programmes_after self.old.programmes (Logs entry) }
         ensures limit { self.new.limit ≡ self.old.limit }
-        ensures vms { self.new.vms ≡ self.old.vms }
     {
         push_all(&mut self.nodes, entry);
         self.behind = self.nodes.len();
         self.log.push_reserved(entry);
-        let number = self.log.len() as u32;
-        self.homes.note(entry, number);
+        self.placements.append(&entry);
     }
 
     /// The node announces how long its programme is.
@@ -152,7 +147,6 @@ impl Nodes {
         ensures upto { result ≡ length (programme_at self.old.programmes node) }
         ensures programmes { self.new.programmes ≡ programmes_after self.old.programmes (Announces node result) }
         ensures limit { self.new.limit ≡ self.old.limit }
-        ensures vms { self.new.vms ≡ self.old.vms }
     {
         announce_at(&mut self.nodes, node)
     }
@@ -163,7 +157,6 @@ impl Nodes {
         ensures upto { result ≡ announced_at self.old.programmes node }
         ensures programmes { self.new.programmes ≡ programmes_after self.old.programmes (Installs node result) }
         ensures limit { self.new.limit ≡ self.old.limit }
-        ensures vms { self.new.vms ≡ self.old.vms }
     {
         let was_behind = is_behind_at(&self.nodes, node);
         let upto = install_at(&mut self.nodes, node);

@@ -1,10 +1,10 @@
 //! The log and the nodes' programmes, and whose installers may act.
 ghost use Rattle.std.specs.Prelude.{◌≡◌, ℕ, ◌<◌, ◌≤◌, ◌⊎◌, ◌↔◌, ◌^◌, [], length, true, false, IsTrue, IfOk, replicate, slice_set};
-ghost use Rattle.and_events.specs.Legal as legal;
 ghost use Rattle.and_events.specs.Programming.{Logs, Announces, Installs, HasInstalled, programmes_after, programme_at, announced_at, installed_at};
 ghost use Rattle.and_kept.specs.Nodes as spec;
 ghost use Rattle.and_kept.specs.Numbers.{has, count_below};
 ghost use Rattle.and_policy.specs.Owners as owners;
+ghost use Rattle.and_policy.specs.Programmes as programmes;
 
 use crate::count::no_marks;
 use crate::nodes::Nodes;
@@ -16,8 +16,7 @@ use std::marker::Model;
 /// The log, and each node's programme with how much of it is announced and installed; at which nodes installs are held; and
 /// the set of the nodes whose installers may act, which is kept where one of these changes. Nodes go by their places.
 ///
-/// Contracts see it as the definition's components, beside the number of entries that the log has room for and the number
-/// of VMs of which it is kept where they are.
+/// Contracts see it as the definition's components, beside the number of entries that the log has room for.
 #[derive(Drop)]
 pub struct Progress {
     nodes: Nodes,
@@ -30,7 +29,7 @@ impl Model for Progress {
 
     ghost Value = { Progressed };
 
-    ghost view = { λ p. record { programmes = p.nodes.programmes; limit = p.nodes.limit; vms = p.nodes.vms; held = p.held.items } };
+    ghost view = { λ p. record { programmes = p.nodes.programmes; limit = p.nodes.limit; held = p.held.items } };
 
     ghost invariant = { λ p. AreReadied p.nodes.programmes p.held.items p.ready };
 }
@@ -64,19 +63,17 @@ fn refresh(nodes: &Nodes, held: &Vec<bool>, ready: &mut NumberSet, range: (u32, 
 }
 
 impl Progress {
-    /// An empty log with room for `limit` entries, so many nodes with empty programmes, and so many VMs; nothing is held. All
-    /// memory is taken here.
-    pub fn make(alloc: Global, nodes: usize, limit: u32, vms: usize) -> Result<Progress, NoMemory>
+    /// An empty log with room for `limit` entries, and so many nodes with empty programmes; nothing is held. All memory is taken here.
+    pub fn make(alloc: Global, nodes: usize, limit: u32) -> Result<Progress, NoMemory>
         requires { nodes < 2 ^ 16 }
         ensures programmes { IfOk result (λ p. p.programmes ≡ record { log = []; ops = replicate nodes []; announced = replicate nodes 0; installed = replicate nodes 0 }) }
         ensures limit { IfOk result (λ p. p.limit ≡ limit) }
-        ensures vms { IfOk result (λ p. p.vms ≡ vms) }
         ensures held { IfOk result (λ p. p.held ≡ replicate nodes false) }
     {
         let held = no_marks(alloc, nodes)?;
         let mut ready = NumberSet::make(alloc, nodes as u32)?;
         let count = nodes as u32;
-        let nodes = Nodes::make(alloc, nodes, limit, vms)?;
+        let nodes = Nodes::make(alloc, nodes, limit)?;
         refresh(&nodes, &held, &mut ready, (0, count));
         Ok(Progress { nodes, held, ready })
     }
@@ -128,17 +125,22 @@ impl Progress {
         self.nodes.all_installed()
     }
 
+    /// The network to which the log added the VM.
+    pub fn net(&self, vm: u32) -> Option<u32>
+        ensures { result ≡ programmes.net_of_vm self.now.programmes.log vm }
+    {
+        self.nodes.net(vm)
+    }
+
     /// The number of the log entry that added the VM, from 1.
     pub fn added(&self, vm: u32) -> Option<u32>
-        requires { vm < self.now.vms }
-        ensures { result ≡ legal.added_at self.now.programmes.log vm }
+        ensures { result ≡ programmes.added_at self.now.programmes.log vm }
     {
         self.nodes.added(vm)
     }
 
     /// The host where the VM is under the log.
     pub fn place(&self, vm: u32) -> Option<u32>
-        requires { vm < self.now.vms }
         ensures { result ≡ owners.place self.now.programmes.log vm }
     {
         self.nodes.place(vm)
@@ -175,7 +177,6 @@ impl Progress {
         requires { length self.old.programmes.log < self.old.limit }
         ensures programmes { self.new.programmes ≡ programmes_after self.old.programmes (Logs entry) }
         ensures limit { self.new.limit ≡ self.old.limit }
-        ensures vms { self.new.vms ≡ self.old.vms }
         ensures held { self.new.held ≡ self.old.held }
     {
         self.nodes.append(entry);
@@ -189,7 +190,6 @@ impl Progress {
         ensures upto { result ≡ length (programme_at self.old.programmes node) }
         ensures programmes { self.new.programmes ≡ programmes_after self.old.programmes (Announces node result) }
         ensures limit { self.new.limit ≡ self.old.limit }
-        ensures vms { self.new.vms ≡ self.old.vms }
         ensures held { self.new.held ≡ self.old.held }
     {
         let upto = self.nodes.announce(node);
@@ -208,7 +208,6 @@ impl Progress {
         ensures upto { result ≡ announced_at self.old.programmes node }
         ensures programmes { self.new.programmes ≡ programmes_after self.old.programmes (Installs node result) }
         ensures limit { self.new.limit ≡ self.old.limit }
-        ensures vms { self.new.vms ≡ self.old.vms }
         ensures held { self.new.held ≡ self.old.held }
     {
         let upto = self.nodes.install(node);

@@ -10,7 +10,7 @@ use Rattle.and_policy.specs.declared.entry.Entry.{Entry}
 use Rattle.and_policy.specs.declared.entry.Entry.TheVariants as entry_kinds
 use Rattle.and_policy.specs.declared.port.Port.{Port}
 use Rattle.and_policy.specs.Logs.{Vm, added, is_live}
-use Rattle.and_policy.specs.Programmes.{entries, prefix}
+use Rattle.and_policy.specs.Programmes.{entries, prefix, adds, added_at}
 use Rattle.and_events.specs.declared.event.Event.{Event}
 use Rattle.and_events.specs.declared.event.Node.{Node}
 use Rattle.and_events.specs.declared.event.Node.TheVariants.{Host, Gate}
@@ -22,7 +22,7 @@ use Rattle.and_events.specs.Places.{queue_place, queue_count, IsNode, HasQueue}
 use Rattle.and_events.specs.Flow.{queue_at, hand_at}
 use Rattle.and_events.specs.Ports.{port_at, IsHairpin}
 use Rattle.and_events.specs.State.{State, state, programme_of, installed_of}
-use Rattle.and_events.specs.Legal.{IsAtRest, IsOver, KnowsVm, adds, added_at, install_held, forward_held}
+use Rattle.and_events.specs.Legal.{IsAtRest, IsOver, KnowsVm, install_held, forward_held}
 use Rattle.and_events.specs.Run.{Run}
 use Rattle.and_events.specs.Sound.{IsSound}
 use Rattle.and_laws.specs.LivePorts.{FitsPorts}

@@ -63,7 +63,7 @@ injected plan (e ∷ h) sound r = same_sent plan _ _ _ refl (injected plan h sou
 one_or_none : (i n sent : ℕ) → n ≡ one_if (nat_lt i sent) → n ≤ 1
 one_or_none i n sent e = grind (arith, common_steps)
 
-below : (i n sent : ℕ) → n ≡ one_if (nat_lt i sent) → 0 < n → i < sent
+pub below : (i n sent : ℕ) → n ≡ one_if (nat_lt i sent) → 0 < n → i < sent
 below i n sent e some = grind (arith, common_steps)
 
 pub injected_once : (plan : Plan) (h : List Event) → IsSound plan → Run plan h → IsInjectedOnce plan h

@@ -55,3 +55,4 @@ pub mod SameRuns
 pub mod Having
 pub mod Needed
 pub mod Counted
+pub mod Sourced

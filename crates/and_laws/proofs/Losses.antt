@@ -29,14 +29,15 @@ use Rattle.and_events.specs.Flow.{Holds, in_hand, hand_at}
 use Rattle.and_events.specs.Sound.{IsSound}
 use Rattle.and_events.specs.State.{State, state, carried_at, dest_endpoint}
 use Rattle.and_events.specs.Legal.{Legal, Decides, Sends, Departs, Passes, GoesBack, Arrives}
-use Rattle.and_events.specs.Run.{Run}
+use Rattle.and_events.specs.Run.{Run, injections}
 use Rattle.and_laws.specs.Limits.{AtHops, HasDueLosses, IsDue, loss_of, send_loss, departure_loss, passage_loss, return_loss, arrival_loss}
 use Rattle.and_laws.proofs.Places.{one_if, hand_set, hand_within, hand_one}
+use Rattle.and_laws.specs.Scripted.{sent_at}
 use Rattle.and_laws.proofs.Fates.{each_has_one}
 use Rattle.and_laws.proofs.Hops.{hops_left}
-use Rattle.and_laws.proofs.Injected.{injected_once}
+use Rattle.and_laws.proofs.Injected.{injected, below}
 
--- a packet in hand is one of the plan's
+-- a packet in hand was injected, so it is one of the plan's
 one_is_one : (i : ℕ) → one_if (i == i) ≡ 1
 one_is_one i = grind arith
 
@@ -44,11 +45,14 @@ holds_some : (i a : ℕ) (h : Held) (hands : List (Option Held)) → hand_at han
 holds_some i a h hands has is =
     omega (arith, hand_set i a hands None (hand_within a h hands has), hand_one i i h (hand_at hands a) has is, one_is_one i)
 
-pub held_is_known : (plan : Plan) (h : List Event) (a i : ℕ) → IsSound plan → Run plan h → Holds (state plan h).flow a i → i < length plan.packets
-held_is_known plan h a i sound r (held, has, is) =
+pub held_is_sent : (plan : Plan) (h : List Event) (a i : ℕ) → IsSound plan → Run plan h → Holds (state plan h).flow a i → i < sent_at plan h
+held_is_sent plan h a i sound r (held, has, is) =
     let some = holds_some i a held (state plan h).flow.hands has is in
     let law = each_has_one plan h r i in
-    (injected_once plan h sound r).known i (omega (arith, law, some))
+    below i (injections h i) (sent_at plan h) ((injected plan h sound r).counts i) (omega (arith, law, some))
+
+pub held_is_known : (plan : Plan) (h : List Event) (a i : ℕ) → IsSound plan → Run plan h → Holds (state plan h).flow a i → i < length plan.packets
+held_is_known plan h a i sound r holds = omega (arith, held_is_sent plan h a i sound r holds, (injected plan h sound r).most)
 
 module _ (plan : Plan) (h : List Event) (i : ℕ) (spent : (carried_at (state plan h) i).hops ≡ 0 → IsDue plan h (AtHops i)) where
   due_send : (target : Endpoint) (end : End) → Sends plan (state plan h) i target end → IsDue plan h (send_loss plan i target end)

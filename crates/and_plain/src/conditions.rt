@@ -100,7 +100,7 @@ pub(crate) fn has_installed(s: &State, place: usize, number: usize) -> bool
 
 // Whether the entry adds the VM.
 fn adds(vm: u32, entry: &Entry) -> bool
-    ensures { result ≡ spec.adds vm entry.now }
+    ensures { result ≡ programmes.adds vm entry.now }
 {
     match *entry {
         Entry::AddVm { vm: v, .. } => v == vm,
@@ -110,7 +110,7 @@ fn adds(vm: u32, entry: &Entry) -> bool
 
 // How many log entries stand before the VM's AddVm entry.
 fn added_before(log: &[Entry], vm: u32) -> Option<usize>
-    ensures value { result ≡ position (spec.adds vm) log.now }
+    ensures value { result ≡ position (programmes.adds vm) log.now }
     ensures within { IfSome result (λ place. place < length log.now) }
 {
     log.iter().position(|entry| adds(vm, entry))
@@ -118,7 +118,7 @@ fn added_before(log: &[Entry], vm: u32) -> Option<usize>
 
 // The number of the VM's AddVm entry in the log, from 1.
 fn added_at(log: &[Entry], vm: u32) -> Option<usize>
-    ensures { result ≡ spec.added_at log.now vm }
+    ensures { result ≡ programmes.added_at log.now vm }
 {
     match added_before(log, vm) {
         Some(place) => Some(place + 1),

@@ -58,7 +58,7 @@ fn a_full_queue_loses(rt: HostRuntime) -> Result<(), Fail> {
 #[tactic(auto, using(crate::proofs::KeptLemmas::log_longer))]
 #[test]
 fn a_vm_is_where_its_last_entry_says(rt: HostRuntime) -> Result<(), Fail> {
-    let mut progress = Progress::make(rt.alloc(), 2, 3, 6)
+    let mut progress = Progress::make(rt.alloc(), 2, 3)
         .ok()
         .ok_or("there is memory")?;
     assert!(rt; progress.all_installed());
@@ -73,6 +73,7 @@ fn a_vm_is_where_its_last_entry_says(rt: HostRuntime) -> Result<(), Fail> {
     });
     progress.append(Entry::Place { vm: 5, host: 1 });
     assert_eq!(rt; progress.added(5), Some(2));
+    assert_eq!(rt; progress.net(5), Some(7));
     assert_eq!(rt; progress.place(5), Some(1));
     assert!(rt; !progress.all_installed());
     Ok(())

@@ -26,5 +26,5 @@ invariant_of-self c =
     let upto = c.announce-upto.ensures.upto ∙ upto_programme plan s k c.args.node c.node_place-place.result c.self.invariant.stands c.node_place-place.ensures.place in
     keeps_more plan x.threads x.lines.items c.push_reserved.new.self.items k _ _ (vec_capacity c.push_reserved.new.self - vec_len c.push_reserved.new.self) c.args.seat (Announce c.args.node c.announce-upto.result)
     c.self.invariant (legal_announce plan s c.args.node c.announce-upto.result ready upto) seat c.push_reserved.ensures.items
-    (after_announce plan s k c.announce-upto.new.self c.args.node c.node_place-place.result c.announce-upto.result c.self.invariant.stands c.node_place-place.ensures.place c.announce-upto.ensures.programmes c.announce-upto.ensures.limit c.announce-upto.ensures.vms c.announce-upto.ensures.held)
+    (after_announce plan s k c.announce-upto.new.self c.args.node c.node_place-place.result c.announce-upto.result c.self.invariant.stands c.node_place-place.ensures.place c.announce-upto.ensures.programmes c.announce-upto.ensures.limit c.announce-upto.ensures.held)
     (still plan (past x.lines.items) (Announce c.args.node c.announce-upto.result) k.roads tt c.self.invariant.parcels) fits

@@ -46,5 +46,5 @@ invariant_of-self c =
     let fits : in_hand_count k.roads.flow ≤ vec_capacity c.push_reserved.new.self - vec_len c.push_reserved.new.self = omega (arith, room, c.push_reserved.ensures.len, c.push_reserved.ensures.capacity) in
     keeps_more plan x.threads x.lines.items c.push_reserved.new.self.items k _ _ (vec_capacity c.push_reserved.new.self - vec_len c.push_reserved.new.self) c.args.seat (Append x.next)
     c.self.invariant (legal_append plan s x.next e st.next c.due_entry-entry.ensures) seat c.push_reserved.ensures.items
-    (after_append plan s k c.append.new.self c.note_ports.new.ports x.next e st c.due_entry-entry.ensures c.append.ensures.programmes c.note_ports.ensures c.append.ensures.limit c.append.ensures.vms c.append.ensures.held)
+    (after_append plan s k c.append.new.self c.note_ports.new.ports x.next e st c.due_entry-entry.ensures c.append.ensures.programmes c.note_ports.ensures c.append.ensures.limit c.append.ensures.held)
     (still plan (past x.lines.items) (Append x.next) k.roads tt c.self.invariant.parcels) fits

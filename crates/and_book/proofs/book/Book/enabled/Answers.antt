@@ -1,4 +1,4 @@
-use Rattle.std.proofs.Common.{sym, subst, length}
+use Rattle.std.proofs.Common.{sym, subst}
 use Rattle.std.specs.Prelude.{◌≡◌, ◌↔◌, slice_get, IsTrue}
 use Rattle.and_events.specs.declared.plan.Plan.{Plan}
 use Rattle.and_events.specs.Legal.{Enabled}
@@ -16,8 +16,7 @@ can_act-requires-clause-injectable c =
     let plan : Plan = x.plan in
     let inv = c.self.invariant in
     let due = seen x c.args.self.now c.self.view_is (λ (b : BookView). c.next_step.result ≡ slice_get b.plan.steps (now b).next) c.next_step.ensures in
-    subst (λ n. IsInjectable plan.packets n c.next_step.result) (sym inv.sized.vms)
-    (subst (IsInjectable plan.packets (length plan.names)) (sym due) (due_injectable plan (past x.lines.items) inv.sound inv.built inv.run))
+    subst (IsInjectable plan.packets) (sym due) (due_injectable plan (past x.lines.items) inv.sound inv.built inv.run)
 
 pub returns : goal.returns
 returns c =

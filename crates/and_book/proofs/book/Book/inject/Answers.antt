@@ -25,21 +25,10 @@ use Rattle.and_policy.specs.Owners.{place}
 use Rattle.and_events.specs.State.{home, packet_at}
 use Rattle.and_laws.proofs.Capacity.{queues_within}
 use Rattle.and_book.specs.Views.{IsPacket}
-use Rattle.and_book.proofs.Known.{added_named, known_log}
 use Rattle.and_book.proofs.Ends.{inject_ends}
 use Rattle.and_book.proofs.Stepping.{legal_inject, after_inject, enter_holds}
 use Rattle.and_book.proofs.Outgoing.{injected_to}
 use Rattle.and_book.proofs.book.Book.inject.Goals as goal
-
-pub place-requires : goal.place-requires
-place-requires c =
-    let x = c.self.inside in
-    let inv = c.self.invariant in
-    let i = c.args.parcel.packet in
-    let ready = seen x c.args.self.now c.self.view_is (λ (b : BookView). KnowsVm b.plan (now b) (home b.plan (now b) i) (packet_at b.plan i).vm) c.requires.ready in
-    let parcel = seen x c.args.self.now c.self.view_is (λ (b : BookView). IsPacket b.plan c.args.parcel) c.requires.parcel in
-    let below = added_named x.plan (state x.plan (past x.lines.items)).programmes.log (packet_at x.plan i).vm ready.0 (known_log x.plan (past x.lines.items) inv.sound inv.built inv.run) ready.1 in
-    omega (arith, below, parcel.vm, c.vm.ensures, inv.sized.vms)
 
 pub overflow_add-self : goal.overflow_add-self
 overflow_add-self c =

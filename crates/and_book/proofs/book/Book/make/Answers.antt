@@ -1,10 +1,8 @@
-use Rattle.std.proofs.Common.{◌∙◌, refl, ap, subst, arith}
+use Rattle.std.proofs.Common.{◌∙◌, refl, ap, arith}
 use Rattle.and_events.specs.declared.plan.Plan.{Plan}
 use Rattle.and_events.specs.Places.{queue_count}
 use Rattle.and_kept.specs.Lanes.{Roads}
-use Rattle.and_book.specs.Nets.{HasNets}
 use Rattle.and_book.specs.Inside.{Kept}
-use Rattle.and_book.proofs.NetTable.{adds_below}
 use Rattle.and_book.proofs.More.{keeps_start}
 use Rattle.and_book.proofs.Outgoing.{none_yet}
 use Rattle.and_book.proofs.Plans.{log_short}
@@ -13,19 +11,14 @@ use Rattle.and_book.proofs.book.Book.make.Goals as goal
 pub overflow_cast-len : goal.overflow_cast-len
 overflow_cast-len c = let short = log_short c.args.plan c.requires.sound in omega (arith, short, c.len-2.ensures)
 
-pub nets_of-requires : goal.nets_of-requires
-nets_of-requires c = rw (c.as_slice.ensures, c.len-5.ensures) (adds_below c.args.plan c.requires.sound c.requires.built)
-
 pub invariant_of-result : goal.invariant_of-result
 invariant_of-result c =
     let plan : Plan = c.args.plan in
-    let k : Kept = record { next = 0; progress = c.in_ok-progress.progress; ports = c.in_ok-ports.ports; roads = c.in_ok-traffic.traffic; nets = c.in_ok-nets.nets.items } in
-    keeps_start plan c.args.threads c.new.result.items k _ c.len-4.result c.count_nodes-nodes.result c.len.result c.requires.sound c.requires.built c.new.ensures.items refl c.count_nodes-nodes.ensures
-    c.len-4.ensures c.len.ensures c.in_ok-progress.ensures.programmes c.in_ok-ports.ensures (ap (λ (r : Roads). r.flow) c.in_ok-traffic.ensures) c.in_ok-progress.ensures.held (ap (λ (r : Roads). r.held) c.in_ok-traffic.ensures)
+    let k : Kept = record { next = 0; progress = c.in_ok-progress.progress; ports = c.in_ok-ports.ports; roads = c.in_ok-traffic.traffic } in
+    keeps_start plan c.args.threads c.new.result.items k _ c.len-3.result c.count_nodes-nodes.result c.len.result c.requires.sound c.requires.built c.new.ensures.items refl c.count_nodes-nodes.ensures
+    c.len-3.ensures c.len.ensures c.in_ok-progress.ensures.programmes c.in_ok-ports.ensures (ap (λ (r : Roads). r.flow) c.in_ok-traffic.ensures) c.in_ok-progress.ensures.held (ap (λ (r : Roads). r.held) c.in_ok-traffic.ensures)
     (record {
       settings = ap (λ (r : Roads). r.settings) c.in_ok-traffic.ensures;
       limit = c.in_ok-progress.ensures.limit ∙ c.len-2.ensures;
-      vms = c.in_ok-progress.ensures.vms ∙ c.len-3.ensures;
-      nets = subst (HasNets c.in_ok-nets.nets.items) c.as_slice.ensures c.in_ok-nets.ensures;
     })
     (none_yet plan k.roads (queue_count plan.settings) (ap (λ (r : Roads). r.parcels) c.in_ok-traffic.ensures) (ap (λ (r : Roads). r.flow.queues) c.in_ok-traffic.ensures))

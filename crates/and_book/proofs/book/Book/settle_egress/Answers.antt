@@ -1,6 +1,7 @@
 use Rattle.std.proofs.Common.{◌≡◌, ◌<◌, ◌-◌, ◌∙◌, refl, sym, ap, subst, ◌∷◌, ◌++◌, [], List, vec_len, vec_capacity, length, arith}
-use Rattle.std.specs.Prelude.{slice_index_or}
+use Rattle.std.specs.Prelude.{unwrap_or}
 use Rattle.and_policy.specs.declared.decision.Outcome.TheVariants as outcomes
+use Rattle.and_policy.specs.Programmes.{net_of_vm}
 use Rattle.and_events.specs.declared.event.Event.{Event}
 use Rattle.and_events.specs.declared.event.Event.TheVariants.{Egress}
 use Rattle.and_events.specs.declared.event.Line.{Line}
@@ -14,7 +15,6 @@ use Rattle.and_kept.specs.declared.traffic.Holder.{Holder}
 use Rattle.and_kept.specs.Lanes.{Roads}
 use Rattle.and_kept.specs.Moves.{hand_of}
 use Rattle.and_kept.specs.Settling.{LeadsLeaving, departure_of}
-use Rattle.and_book.specs.Nets.{net_in}
 use Rattle.and_book.specs.Views.{BookView, now, IsSeat, IsPacket}
 use Rattle.and_book.specs.Settling.{MaySettleEgress, leaving_said, egress_event}
 use Rattle.and_book.specs.Inside.{Kept, Keeps, kept_of}
@@ -22,7 +22,7 @@ use Rattle.and_book.proofs.More.{seen, as_kept}
 use Rattle.and_book.proofs.Departing.{seals_at, leads_leaving, legal_egress}
 use Rattle.and_book.proofs.FromHand.{IsFrom, departs_from, egress_moves}
 use Rattle.and_book.proofs.Settled.{worker_handles}
-use Rattle.and_book.proofs.Settling.{known_packet, may_move, settled_keeps}
+use Rattle.and_book.proofs.Settling.{known_packet, may_move, own_net, settled_keeps}
 use Rattle.and_book.proofs.Unsent.{all_hops}
 use Rattle.and_book.proofs.book.Book.settle_egress.Goals as goal
 
@@ -57,10 +57,11 @@ settle_leaving-departure-requires-clause-leads c =
     let word : outcomes.Leaving c.leaving_in-said.result ≡ outcomes.Leaving (leaving_said x.plan (state x.plan (past x.lines.items)) a i c.args.decision.at) = sym c.leaving_in-said.ensures ∙ ready.said in
     let said : c.leaving_in-said.result ≡ leaving_said x.plan (state x.plan (past x.lines.items)) a i c.args.decision.at = cc word in
     let parcel = seen x c.args.self.now c.self.view_is (λ (b : BookView). IsPacket b.plan c.args.parcel) c.requires.parcel in
-    let net : c.net_of-own.result ≡ source_net x.plan i =
-    c.net_of-own.ensures
-    ∙ (ap (λ ns. slice_index_or ns c.vm.result 0) c.deref.ensures.value ∙ (inv.sized.nets c.vm.result ∙ (ap (net_in x.plan.log) c.vm.ensures ∙ ap (net_in x.plan.log) parcel.vm))) in
-    subst (λ v. LeadsLeaving v c.net_of-own.result c.leaving_in-said.result) (sym inv.sized.settings)
+    let net : c.unwrap_or-own.result ≡ source_net x.plan i =
+    c.unwrap_or-own.ensures
+    ∙ ap (λ o. unwrap_or o 0) (c.net.ensures ∙ (ap (net_of_vm x.progress.programmes.log) (c.vm.ensures ∙ parcel.vm)
+    ∙ own_net x.plan x.threads x.lines.items (kept_of x) _ inv a ready.decides.need Out c.args.parcel ready.decides.holds)) in
+    subst (λ v. LeadsLeaving v c.unwrap_or-own.result c.leaving_in-said.result) (sym inv.sized.settings)
     (subst (λ n. LeadsLeaving x.plan.settings n c.leaving_in-said.result) (sym net)
     (subst (LeadsLeaving x.plan.settings (source_net x.plan i)) (sym said) (leads_leaving x.plan (past x.lines.items) a i c.args.decision.at inv.sound inv.built inv.run ready.decides.actor ready.worker)))
 
@@ -76,7 +77,7 @@ invariant_of-self c =
     let i = c.args.parcel.packet in
     let d = c.args.decision in
     let f : Holder = c.holder-from.result in
-    let own = c.net_of-own.result in
+    let own = c.unwrap_or-own.result in
     let departure = c.settle_leaving-departure.result in
     let lines : List Line = x.lines.items in
     let lines' : List Line = c.push_reserved.new.self.items in
@@ -88,8 +89,9 @@ invariant_of-self c =
     let e : Event = egress_event plan s a i d.at d.way in
     let here = node_of a in
     let net : own ≡ source_net plan i =
-    c.net_of-own.ensures
-    ∙ (ap (λ ns. slice_index_or ns c.vm.result 0) c.deref.ensures.value ∙ (inv.sized.nets c.vm.result ∙ (ap (net_in plan.log) c.vm.ensures ∙ ap (net_in plan.log) parcel.vm))) in
+    c.unwrap_or-own.ensures
+    ∙ ap (λ o. unwrap_or o 0) (c.net.ensures ∙ (ap (net_of_vm k.progress.programmes.log) (c.vm.ensures ∙ parcel.vm)
+    ∙ own_net plan x.threads lines k _ inv a ready.decides.need Out c.args.parcel ready.decides.holds)) in
     let word : outcomes.Leaving c.leaving_in-said.result ≡ outcomes.Leaving (leaving_said plan s a i d.at) = sym c.leaving_in-said.ensures ∙ ready.said in
     let said : c.leaving_in-said.result ≡ leaving_said plan s a i d.at = cc word in
     let departed : departure ≡ departure_of plan.settings s.flow here i (leaving_said plan s a i d.at) =

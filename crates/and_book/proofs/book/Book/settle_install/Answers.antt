@@ -26,5 +26,5 @@ invariant_of-self c =
     let upto = c.install-upto.ensures.upto ∙ upto_announced plan s k c.args.node c.node_place-place.result c.self.invariant.stands c.node_place-place.ensures.place in
     keeps_more plan x.threads x.lines.items c.push_reserved.new.self.items k _ _ (vec_capacity c.push_reserved.new.self - vec_len c.push_reserved.new.self) c.args.seat (Installed c.args.node c.install-upto.result)
     c.self.invariant (legal_installed plan s c.args.node c.install-upto.result ready upto) seat c.push_reserved.ensures.items
-    (after_installed plan s k c.install-upto.new.self c.args.node c.node_place-place.result c.install-upto.result c.self.invariant.stands c.node_place-place.ensures.place c.install-upto.ensures.programmes c.install-upto.ensures.limit c.install-upto.ensures.vms c.install-upto.ensures.held)
+    (after_installed plan s k c.install-upto.new.self c.args.node c.node_place-place.result c.install-upto.result c.self.invariant.stands c.node_place-place.ensures.place c.install-upto.ensures.programmes c.install-upto.ensures.limit c.install-upto.ensures.held)
     (still plan (past x.lines.items) (Installed c.args.node c.install-upto.result) k.roads tt c.self.invariant.parcels) fits

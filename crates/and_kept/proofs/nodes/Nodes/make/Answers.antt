@@ -3,7 +3,9 @@ use Rattle.and_kept.proofs.NodesLemmas.{progress_start, programmes_start}
 use Rattle.and_kept.proofs.nodes.Nodes.make.Goals as goal
 
 pub invariant_of-result : goal.invariant_of-result
-invariant_of-result c = progress_start c.in-Ok.log.items c.in_ok-nodes.nodes.items c.in_ok-homes.homes c.args.nodes c.args.limit (vec_capacity c.in-Ok.log) c.args.vms (search rules) c.in_ok-nodes.ensures c.in_ok-homes.ensures (search rules) c.ranges.limit.fits
+invariant_of-result c =
+    progress_start c.in-Ok.log.items c.in_ok-nodes.nodes.items c.room.new.self c.args.nodes c.args.limit (vec_capacity c.in-Ok.log) (search rules) c.in_ok-nodes.ensures
+    (c.room.ensures.kept _ c.new-placements.ensures) c.in_ok-room.ensures.ok (search rules) c.ranges.limit.fits
 
 pub returns-clause-programmes : goal.returns-clause-programmes
 returns-clause-programmes c = programmes_start c.in-Ok.log.items c.in_ok-nodes.nodes.items c.args.nodes c.args.limit (search rules) c.in_ok-nodes.ensures

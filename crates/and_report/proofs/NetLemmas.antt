@@ -1,12 +1,11 @@
 -- The networks of VMs and of packets, one entry or one event further.
-use Rattle.std.proofs.Common.{◌≡◌, ℕ, zero, suc, ◌+◌, ◌<◌, Bool, true, false, List, [], ◌∷◌, ◌++◌, map, length, get_or, set, replicate, take, Option, Some, None, cond, refl, ap, sym, subst, ◌∙◌}
-use Rattle.std.specs.Prelude.{◌==◌, option_map, if◌then◌else◌}
-use Rattle.std.specs.List.{find}
+use Rattle.std.proofs.Common.{◌≡◌, ℕ, zero, suc, ◌+◌, ◌<◌, Bool, true, false, List, [], ◌∷◌, map, length, get_or, set, replicate, take, Option, refl, ap, sym, subst, ◌∙◌}
 use Rattle.std.proofs.lemmas.List.{map-set, set-get_or, take_more}
 use Rattle.and_policy.specs.declared.entry.Entry.{Entry}
-use Rattle.and_policy.specs.declared.entry.Entry.TheVariants as entries
-use Rattle.and_policy.specs.Logs.{Vm, added}
+use Rattle.and_policy.specs.Owners.{or_else}
+use Rattle.and_policy.specs.Placements.{net_by}
 use Rattle.and_policy.specs.Programmes.{net_of_vm}
+use Rattle.and_policy.proofs.Placing.{net-append}
 use Rattle.and_events.specs.declared.event.Node.{Node}
 use Rattle.and_events.specs.declared.event.Endpoint.{Endpoint}
 use Rattle.and_events.specs.declared.event.Carried.{Carried}
@@ -27,30 +26,12 @@ use Rattle.and_events.specs.declared.plan.Plan.{Plan}
 use Rattle.and_events.specs.Flow.{Flow, flow_after, send_by, carried_in, enter_by, sent}
 use Rattle.and_events.specs.State.{state, start, after, move_of, source_net, departs, passes, goes_back, arrives}
 use Rattle.and_report.specs.Fates.{fate_by, passage_fate, arrival_fate}
-use Rattle.and_report.specs.Nets.{net_by, or_else, net_of, nets_in, departs_under, passes_under, nets_after, fate_under}
+use Rattle.and_report.specs.Nets.{net_of, nets_in, departs_under, passes_under, nets_after, fate_under}
 
 -- ---- VMs
 
--- the network of the first VM that passes the test, in a list that has another VM in front
-first_push : (b : Bool) (v : Vm) (rest all : Option Vm) (last : Option ℕ) → option_map (λ (x : Vm). x.net) all ≡ or_else (option_map (λ (x : Vm). x.net) rest) last
-    → option_map (λ (x : Vm). x.net) (cond b (Some v) all) ≡ or_else (option_map (λ (x : Vm). x.net) (cond b (Some v) rest)) last
-first_push true v rest all last h = refl
-first_push false v rest all last h = h
-
-last_is : (b : Bool) (v : Vm) → option_map (λ (x : Vm). x.net) (cond b (Some v) None) ≡ (if b then Some v.net else None)
-last_is true v = refl
-last_is false v = refl
-
--- the network of a VM with one entry more
-pub net_push : (vm : ℕ) (k : List Entry) (e : Entry) → net_of_vm (k ++ e ∷ []) vm ≡ or_else (net_of_vm k vm) (net_by vm e)
-net_push vm [] (entries.AddVm v net mac ip host) = last_is (v == vm) _
-net_push vm [] _ = refl
-net_push vm (entries.AddVm v net mac ip host ∷ k) e =
-    first_push (v == vm) _ (find (λ (x : Vm). x.number == vm) (added k)) (find (λ (x : Vm). x.number == vm) (added (k ++ e ∷ []))) (net_by vm e) (net_push vm k e)
-net_push vm (_ ∷ k) e = net_push vm k e
-
 pub net_more : (vm : ℕ) (log : List Entry) (i : ℕ) (d : Entry) → i < length log → net_of_vm (take (i + 1) log) vm ≡ or_else (net_of_vm (take i log) vm) (net_by vm (get_or log i d))
-net_more vm log i d here = ap (λ k. net_of_vm k vm) (take_more log i d here) ∙ net_push vm (take i log) (get_or log i d)
+net_more vm log i d here = ap (λ k. net_of_vm k vm) (take_more log i d here) ∙ net-append vm (take i log) (get_or log i d)
 
 pub net_next : (vm : ℕ) (log items : List Entry) (i : ℕ) (d : Entry) (old new : Option ℕ) → items ≡ log → i < length items → old ≡ net_of_vm (take i log) vm
     → new ≡ or_else old (net_by vm (get_or items i d)) → new ≡ net_of_vm (take (i + 1) log) vm

@@ -1,7 +1,8 @@
 -- The networks of VMs and of packets, as the pass over the lines keeps them.
-use Rattle.std.specs.Prelude.{◌≡◌, ℕ, ◌<◌, ◌==◌, if◌then◌else◌, List, length, map, slice_set, slice_index_or, Option, Some, None}
+use Rattle.std.specs.Prelude.{◌≡◌, ℕ, ◌<◌, List, length, map, slice_set, slice_index_or, Option, None}
 use Rattle.and_policy.specs.declared.entry.Entry.{Entry}
-use Rattle.and_policy.specs.declared.entry.Entry.TheVariants.{AddVm}
+use Rattle.and_policy.specs.Owners.{or_else}
+use Rattle.and_policy.specs.Placements.{net_by}
 use Rattle.and_policy.specs.Programmes.{net_of_vm}
 use Rattle.and_events.specs.declared.event.Carried.{Carried}
 use Rattle.and_events.specs.declared.event.End.TheVariants.{Queued}
@@ -17,16 +18,6 @@ use Rattle.and_report.specs.declared.fate.Fate.{Fate}
 use Rattle.and_report.specs.Fates.{inject_fate, departure_fate, end_fate, passage_fate, return_fate, arrival_fate}
 
 -- ---- VMs
-
--- the network in which an entry adds the VM
-abbrev pub net_by : ℕ → Entry → Option ℕ
-net_by vm (AddVm v net mac ip host) = if v == vm then Some net else None
-net_by vm _ = None
-
--- the first of two that is there
-abbrev pub or_else : Option ℕ → Option ℕ → Option ℕ
-or_else None b = b
-or_else (Some a) b = Some a
 
 -- the networks, with that of the VM that an entry adds
 abbrev pub Notes : Entry → List (Option ℕ) → List (Option ℕ) → Type 0

@@ -7,7 +7,7 @@ for tool in tshark python3; do
 done
 folder=$(mktemp -d)
 trap 'rm -rf "$folder"' EXIT
-python3 scripts/underlay_capture.py crates/wire_tests/src/tests.rt "$folder/underlay.pcap"
+python3 scripts/underlay_capture.py crates/wire_rows 2 "$folder/underlay.pcap"
 # Of the fields that stand in the outer and in the inner packet, the first is the outer one. Status 1 is good.
 tshark -n -o ip.check_checksum:TRUE -r "$folder/underlay.pcap" -T fields -E separator=/s -E occurrence=f \
   -e vxlan.vni -e ip.checksum.status -e ip.src -e ip.dst -e udp.dstport >"$folder/read"

@@ -1,0 +1,107 @@
+//! A program to check frames, outer packets and what stands on them by: each line of its input asks for one thing, and it writes a line for each.
+//!
+//! - `frame DIGITS`: the frame's Ethernet source address, its tuple, the hash of its flow and the source port of its outer packets, or the name
+//!   of the first check that it fails.
+//! - `outer DIGITS`: what the headers of an outer packet say, or the name of the first check that it fails.
+//! - `wrap HOW FROM TO TTL VNI DIGITS`: the outer packet of a frame, `open`, `sealed`, or sealed `later` than it was wrapped. A node is a letter and
+//!   a number: `h1` a host, `g0` a gateway, `r0` a gateway's redirect address.
+//! - `queue CAPACITY COUNT DIGITS`: what a queue takes of so many parcels of a frame, and what it gives.
+//! - `sum DIGITS`: the one's complement sum. `tags TAG DIGITS`: which of sixteen tags are this one. `batch COUNT`: a batch of so many operations.
+//!
+//! Bytes are hexadecimal digits. Its lines are written by `scripts/wire_rows.py`. It promises nothing: the stored run shows what it calls.
+#![tactic(auto)]
+
+mod outers;
+mod queues;
+mod words;
+
+use crate::outers::{tell_outer, tell_wrapped};
+use crate::queues::{tell_batch, tell_queue};
+use crate::words::{bytes_of, next_word, number};
+use and_lanes::{ones_sum, tags_equal};
+use and_parcel::entropy_port;
+use and_policy::{Fields, Skip, flow_hash};
+use and_wire::read_frame;
+use anyhow::Result;
+
+fn tell_fields(rt: &HostRuntime, fields: &Fields) -> Result<()> {
+    let tuple = &fields.tuple;
+    let hash = flow_hash(tuple);
+    let port = entropy_port(hash);
+    let mac = fields.source_mac;
+    let (protocol, source, destination) = (tuple.protocol, tuple.source, tuple.destination);
+    let (source_port, destination_port) = (tuple.source_port, tuple.destination_port);
+    print!(rt; "{mac} {protocol} {source} {destination} ")?;
+    println!(rt; "{source_port} {destination_port} {hash} {port}")?;
+    Ok(())
+}
+
+fn skip_name(skip: Skip) -> &'static str {
+    match skip {
+        Skip::TooLong => "TooLong",
+        Skip::Short => "Short",
+        Skip::NotIp4 => "NotIp4",
+        Skip::Cut => "Cut",
+        Skip::BadIp4 => "BadIp4",
+        Skip::ShortPorts => "ShortPorts",
+    }
+}
+
+fn tell_frame(rt: &HostRuntime, digits: &str) -> Result<()> {
+    let frame = bytes_of(rt.alloc(), digits)?;
+    match read_frame(frame.as_slice()) {
+        Ok(fields) => tell_fields(rt, &fields),
+        Err(skip) => {
+            let name = skip_name(skip);
+            println!(rt; "{name}")?;
+            Ok(())
+        }
+    }
+}
+
+fn tell_sum(rt: &HostRuntime, digits: &str) -> Result<()> {
+    let bytes = bytes_of(rt.alloc(), digits)?;
+    let sum = ones_sum(bytes.as_slice());
+    println!(rt; "{sum}")?;
+    Ok(())
+}
+
+fn tell_tags(rt: &HostRuntime, words: &str) -> Result<()> {
+    let (tag, digits) = next_word(words);
+    let bytes = bytes_of(rt.alloc(), digits)?;
+    let mut tags = [0u8; 16];
+    for (place, byte) in tags.iter_mut().zip(bytes.as_slice()) {
+        *place = *byte;
+    }
+    let found = tags_equal(&tags, (number(tag) % 256) as u8);
+    println!(rt; "{found}")?;
+    Ok(())
+}
+
+/// Answers a line.
+fn tell(rt: &HostRuntime, line: &str) -> Result<()> {
+    let (kind, rest) = next_word(line);
+    if kind == "frame" {
+        tell_frame(rt, rest)
+    } else if kind == "outer" {
+        tell_outer(rt, rest)
+    } else if kind == "wrap" {
+        tell_wrapped(rt, rest)
+    } else if kind == "queue" {
+        tell_queue(rt, rest)
+    } else if kind == "sum" {
+        tell_sum(rt, rest)
+    } else if kind == "tags" {
+        tell_tags(rt, rest)
+    } else {
+        tell_batch(rt, rest)
+    }
+}
+
+fn main(rt: HostRuntime) -> Result<()> {
+    for line in rt.lines(rt.alloc()) {
+        let line = line?;
+        tell(&rt, line.as_str())?;
+    }
+    Ok(())
+}

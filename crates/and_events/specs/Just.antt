@@ -4,11 +4,14 @@ use Rattle.and_policy.specs.declared.entry.Entry.{Entry}
 use Rattle.and_policy.specs.declared.decision.Name.{Name}
 use Rattle.and_policy.specs.declared.decision.Dest.{Dest}
 use Rattle.and_policy.specs.declared.decision.Dest.TheVariants.{Offload, Hover}
+use Rattle.and_policy.specs.declared.decision.Exit.{Exit}
 use Rattle.and_policy.specs.declared.decision.Exit.TheVariants as exits
+use Rattle.and_policy.specs.declared.decision.Routed.{Routed}
 use Rattle.and_policy.specs.declared.decision.Routed.TheVariants as routeds
 use Rattle.and_policy.specs.declared.decision.Located.TheVariants as locateds
 use Rattle.and_policy.specs.declared.decision.Landing.{Landing}
 use Rattle.and_policy.specs.declared.decision.Landing.TheVariants as landings
+use Rattle.and_policy.specs.declared.port.Port.{Port}
 use Rattle.and_policy.specs.declared.port.Port.TheVariants as port_states
 use Rattle.and_policy.specs.Egress.{egress}
 use Rattle.and_policy.specs.Owners.{routed, located}
@@ -128,47 +131,84 @@ LostAt plan h i target Queued = Unit {0}
 LostAt plan h i target Full = IsFullAt plan (state plan h) target
 LostAt plan h i target Hops = IsSpent plan h i
 
--- ---- one fate
+-- ---- reasons, fate by fate. Each is read in the history before the event that is the fate, decided by this actor at this number
 
--- the fate that an event is has its reason in the history before it
+-- dropped at egress: the policy says so of the packet's VM and tuple
+abbrev pub DroppedAtEgress : Plan → List Event → Actor → ℕ → ℕ → Exit → Type 0
+DroppedAtEgress plan h a i at said = egress (entries_at plan (state plan h) a at) (packet_at plan i).vm (tuple_at plan i) ≡ said
+
+-- dropped at a gateway: the route of the source network drops it, or leads to a network where nobody owns the address
+abbrev pub DroppedByRoute : Plan → List Event → Actor → ℕ → ℕ → Routed → Type 0
+DroppedByRoute plan h a i at said = routed (entries_at plan (state plan h) a at) (source_net plan i) (address plan i) ≡ said
+
+-- sent back to a gateway, and there nobody owns the address in the network in which the packet arrives
+abbrev pub OwnerlessAtReturn : Plan → List Event → Actor → ℕ → ℕ → Type 0
+OwnerlessAtReturn plan h a i at = (net : ℕ) × LedTo plan h i net × (located (entries_at plan (state plan h) a at) net (address plan i) ≡ locateds.NoOwner)
+
+-- at a host nobody owns the address in the network in which the packet arrives
+abbrev pub OwnerlessAtHost : Plan → List Event → Actor → ℕ → ℕ → Type 0
+OwnerlessAtHost plan h a i at = Lands plan h i (entries_at plan (state plan h) a at) landings.NoOwner
+
+-- the VM's port at the actor's host
+abbrev pub port_here : Plan → List Event → Actor → ℕ → Port
+port_here plan h a vm = port_at (state plan h).ports (host_of (node_of a)) vm
+
+-- delivered, where `pass`, or dropped at ingress: the VM owns the address in the network in which the packet arrives, runs at this host, and the ingress
+-- rules let the packet in, or do not, by this name
+abbrev pub ArrivedAt : Plan → List Event → Actor → ℕ → ℕ → ℕ → Name → Bool → Type 0
+ArrivedAt plan h a i at vm by pass = Lands plan h i (entries_at plan (state plan h) a at) (landings.Owned vm by pass) × (port_here plan h a vm ≡ port_states.Running)
+
+-- the VM owns the address, whatever the rules say
+abbrev pub CameFor : Plan → List Event → Actor → ℕ → ℕ → ℕ → Type 0
+CameFor plan h a i at vm = LandsFor plan h i (entries_at plan (state plan h) a at) vm
+
+-- lost in a blackout: the owner is on its way from this host, or to it
+abbrev pub LostInBlackout : Plan → List Event → Actor → ℕ → ℕ → ℕ → Type 0
+LostInBlackout plan h a i at vm = CameFor plan h a i at vm × ((port_here plan h a vm ≡ port_states.Paused) ⊎ (port_here plan h a vm ≡ port_states.Arriving))
+
+-- lost at a full queue or at the hop limit, when it was to be sent on: to the host to which the owner has gone, or back to a gateway
+abbrev pub LostToNewHost : Plan → List Event → Actor → ℕ → ℕ → ℕ → ℕ → End → Type 0
+LostToNewHost plan h a i at vm host end =
+    CameFor plan h a i at vm × ((entry : ℕ) × (port_here plan h a vm ≡ port_states.Hairpin host entry)) × LostAt plan h i (endpoints.Host host) end
+
+abbrev pub LostOnReturn : Plan → List Event → Actor → ℕ → ℕ → ℕ → ℕ → End → Type 0
+LostOnReturn plan h a i at vm gateway end =
+    CameFor plan h a i at vm × (port_here plan h a vm ≡ port_states.Absent) × (gateway ≡ gateway_of plan.settings.gateways (tuple_at plan i))
+    × LostAt plan h i (endpoints.Redirect gateway) end
+
+-- lost at the hop limit in a gateway, which would have sent it to a host
+abbrev pub SpentAtRoute : Plan → List Event → Actor → ℕ → ℕ → Name → Type 0
+SpentAtRoute plan h a i at by =
+    ((net host : ℕ) × (routed (entries_at plan (state plan h) a at) (source_net plan i) (address plan i) ≡ routeds.To by net host)) × IsSpent plan h i
+
+abbrev pub SpentAtReturn : Plan → List Event → Actor → ℕ → ℕ → Type 0
+SpentAtReturn plan h a i at =
+    ((net host : ℕ) × LedTo plan h i net × (located (entries_at plan (state plan h) a at) net (address plan i) ≡ locateds.To host)) × IsSpent plan h i
+
+-- ---- which event asks for which reason
+
 unfoldable pub JustBy : Plan → List Event → Event → Type 0
 JustBy plan h (Inject step i full) = IsFull plan (state plan h) (queue_place plan.settings (Host (home plan (state plan h) i)) Out)
-JustBy plan h (Egress a i at way NoVm) = egress (entries_at plan (state plan h) a at) (packet_at plan i).vm (tuple_at plan i) ≡ exits.NoVm
-JustBy plan h (Egress a i at way Spoofed) = egress (entries_at plan (state plan h) a at) (packet_at plan i).vm (tuple_at plan i) ≡ exits.Spoofed
-JustBy plan h (Egress a i at way (Denied n)) = egress (entries_at plan (state plan h) a at) (packet_at plan i).vm (tuple_at plan i) ≡ exits.Denied n
+JustBy plan h (Egress a i at way NoVm) = DroppedAtEgress plan h a i at exits.NoVm
+JustBy plan h (Egress a i at way Spoofed) = DroppedAtEgress plan h a i at exits.Spoofed
+JustBy plan h (Egress a i at way (Denied n)) = DroppedAtEgress plan h a i at (exits.Denied n)
 JustBy plan h (Egress a i at way (Allowed by true dest Queued)) = Unit {0}
 JustBy plan h (Egress a i at way (Allowed by true dest Full)) = IsFull plan (state plan h) (queue_place plan.settings (node_of a) Seal)
 JustBy plan h (Egress a i at way (Allowed by true dest Hops)) = ⊥
 JustBy plan h (Egress a i at way (Allowed by false dest end)) = LostAt plan h i (dest_endpoint dest) end
 JustBy plan h (Sealed a i end) = LostAt plan h i (carried_at (state plan h) i).target end
-JustBy plan h (Route a i at (passages.Dropped by)) =
-    routed (entries_at plan (state plan h) a at) (source_net plan i) (address plan i) ≡ routeds.Dropped by
-JustBy plan h (Route a i at (passages.NoOwner by)) =
-    routed (entries_at plan (state plan h) a at) (source_net plan i) (address plan i) ≡ routeds.NoOwner by
+JustBy plan h (Route a i at (passages.Dropped by)) = DroppedByRoute plan h a i at (routeds.Dropped by)
+JustBy plan h (Route a i at (passages.NoOwner by)) = DroppedByRoute plan h a i at (routeds.NoOwner by)
 JustBy plan h (Route a i at (passages.Send by net host end)) = LostAt plan h i (endpoints.Host host) end
-JustBy plan h (Route a i at (passages.Hops by)) =
-    ((net host : ℕ) × (routed (entries_at plan (state plan h) a at) (source_net plan i) (address plan i) ≡ routeds.To by net host)) × IsSpent plan h i
-JustBy plan h (Redirect a i at returns.NoOwner) =
-    (net : ℕ) × LedTo plan h i net × (located (entries_at plan (state plan h) a at) net (address plan i) ≡ locateds.NoOwner)
+JustBy plan h (Route a i at (passages.Hops by)) = SpentAtRoute plan h a i at by
+JustBy plan h (Redirect a i at returns.NoOwner) = OwnerlessAtReturn plan h a i at
 JustBy plan h (Redirect a i at (returns.Send host end)) = LostAt plan h i (endpoints.Host host) end
-JustBy plan h (Redirect a i at returns.Hops) =
-    ((net host : ℕ) × LedTo plan h i net × (located (entries_at plan (state plan h) a at) net (address plan i) ≡ locateds.To host)) × IsSpent plan h i
-JustBy plan h (Ingress a i at way arrivals.NoOwner) = Lands plan h i (entries_at plan (state plan h) a at) landings.NoOwner
-JustBy plan h (Ingress a i at way (arrivals.Running vm by pass)) =
-    Lands plan h i (entries_at plan (state plan h) a at) (landings.Owned vm by pass)
-    × (port_at (state plan h).ports (host_of (node_of a)) vm ≡ port_states.Running)
-JustBy plan h (Ingress a i at way (arrivals.Blackout vm)) =
-    LandsFor plan h i (entries_at plan (state plan h) a at) vm
-    × ((port_at (state plan h).ports (host_of (node_of a)) vm ≡ port_states.Paused) ⊎ (port_at (state plan h).ports (host_of (node_of a)) vm ≡ port_states.Arriving))
-JustBy plan h (Ingress a i at way (arrivals.Hairpin vm host end)) =
-    LandsFor plan h i (entries_at plan (state plan h) a at) vm
-    × ((entry : ℕ) × (port_at (state plan h).ports (host_of (node_of a)) vm ≡ port_states.Hairpin host entry))
-    × LostAt plan h i (endpoints.Host host) end
-JustBy plan h (Ingress a i at way (arrivals.Absent vm gateway end)) =
-    LandsFor plan h i (entries_at plan (state plan h) a at) vm
-    × (port_at (state plan h).ports (host_of (node_of a)) vm ≡ port_states.Absent)
-    × (gateway ≡ gateway_of plan.settings.gateways (tuple_at plan i))
-    × LostAt plan h i (endpoints.Redirect gateway) end
+JustBy plan h (Redirect a i at returns.Hops) = SpentAtReturn plan h a i at
+JustBy plan h (Ingress a i at way arrivals.NoOwner) = OwnerlessAtHost plan h a i at
+JustBy plan h (Ingress a i at way (arrivals.Running vm by pass)) = ArrivedAt plan h a i at vm by pass
+JustBy plan h (Ingress a i at way (arrivals.Blackout vm)) = LostInBlackout plan h a i at vm
+JustBy plan h (Ingress a i at way (arrivals.Hairpin vm host end)) = LostToNewHost plan h a i at vm host end
+JustBy plan h (Ingress a i at way (arrivals.Absent vm gateway end)) = LostOnReturn plan h a i at vm gateway end
 JustBy plan h _ = Unit {0}
 
 -- every fate of the packet has its reason

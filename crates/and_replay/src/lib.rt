@@ -6,7 +6,7 @@
 //! want of memory stops it before.
 //!
 //! It stands on `and_book`, whose type says that its lines are a legal run, and on `and_laws` for what goes on in every run.
-//! Decisions come from an index over the log, which is looked at neither from its beginning nor once for each node: in this
+//! Decisions come from the tables of a host and of a gateway that have the whole log, and are kept once and not for each node: in this
 //! order every installer acts before a packet is decided of, so each node's programme is the log, and all of it installed.
 //!
 //! Whose turn it is the book tells: it keeps the set of those that may act.

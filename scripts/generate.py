@@ -3,8 +3,8 @@
 and N.trace for N from 0 on.
 
 Use: generate.py FOLDER COUNT SEED
-The scenarios are of the kinds of items that the program takes so far: networks, VMs, rules, sends and waits on one gateway and up to
-seven hosts. Each packet is of a flow of its own, so that no flow cache answers.
+The scenarios are of the kinds of items that the program takes so far: networks, VMs, rules, routes, what deletes these, sends and waits, on up
+to seven hosts and eight gateways, with settings of all kinds. Each packet is of a flow of its own, so that no flow cache answers.
 """
 
 import os
@@ -13,6 +13,12 @@ import struct
 import sys
 
 import model
+
+
+def settings_of(draw):
+    """Settings that are named, each now and then: small queues and hop limits, so that packets are lost to them."""
+    ranges = {"workers": (1, 4), "hop_limit": (1, 3), "out_queue": (1, 4), "wire_queue": (1, 3), "seal_queue": (1, 4096), "threshold": (1, 1000), "life": (1, 9)}
+    return "".join(f'"{name}":{draw.randint(*ranges[name])},' for name in ranges if draw.random() < 0.2)
 
 
 def scenario_of(draw):
@@ -31,13 +37,20 @@ def scenario_of(draw):
         source = draw.choice(["", f',"source":"{draw.choice(vms)[3]}/{draw.choice([16, 24, 31, 32])}"'])
         items.append(f'{{"do":"add_rule","net":{draw.choice(nets)},"number":{number},"priority":{draw.randrange(0, 4)},"side":"{side}",'
                      f'"action":"{draw.choice(["allow", "allow", "deny"])}"{protocol}{source}{ports}}}')
-    # Sends stand anywhere behind the networks, and some frames are reached by none.
+    for number in range(1, draw.randrange(1, 6)):
+        target = draw.choice(['"local"', '"drop"', f'"peer","peer":{draw.choice(nets)}', f'"peer","peer":{draw.choice(nets)}'])
+        prefix = f"{draw.choice(vms)[3]}/{draw.choice([0, 8, 16, 24, 32])}"
+        items.append(f'{{"do":"add_route","net":{draw.choice(nets)},"number":{number},"prefix":"{prefix}","target":{target}}}')
+    # Deletions of what may be there, some of which are refused; sends stand anywhere behind the networks, and some frames are reached by none.
+    for _ in range(draw.randrange(0, 4)):
+        items.insert(draw.randrange(len(nets) + 1, len(items) + 1),
+                     f'{{"do":"del_{draw.choice(["rule", "route"])}","net":{draw.choice(nets)},"number":{draw.randrange(1, 6)}}}')
     for _ in range(draw.randrange(1, 5)):
         items.insert(draw.randrange(len(nets) + 1, len(items) + 1), draw.choice(
             ['{"do":"wait"}', '{"do":"send","frames":%d}' % draw.randrange(1, 6)]))
     if draw.random() < 0.7:
         items.append('{"do":"send"}')
-    return f'{{"hosts":{hosts},"gateways":1,"script":[' + ",\n".join(items) + "]}\n", vms
+    return f'{{"hosts":{hosts},"gateways":{draw.randrange(1, 9)},{settings_of(draw)}"script":[' + ",\n".join(items) + "]}\n", vms
 
 
 def frame_of(draw, vms, number):

@@ -1,7 +1,7 @@
 //! Entries and orders by a seeded generator.
 ghost use Rattle.std.specs.Prelude.{◌<◌, ◌≤◌};
 
-use and_policy::{Entry, Order, Prefix, Route, Rule, Side, Target, Tuple};
+use and_policy::{Entry, FlowKey, Order, Prefix, Route, Rule, Side, Target, Tuple};
 
 /// Numbers by a linear congruential generator of 64 bits, whose higher half is given.
 #[derive(Drop)]
@@ -28,7 +28,7 @@ impl Draws {
         ((self.state >> 32) % u64::from(n)) as u32
     }
 
-    fn coin(&mut self) -> bool {
+    pub(crate) fn coin(&mut self) -> bool {
         self.below(2) == 0
     }
 
@@ -80,6 +80,20 @@ impl Draws {
             destination: self.address(),
             source_port,
             destination_port,
+        }
+    }
+
+    /// A key of this tuple, for a VM or a network.
+    pub(crate) fn key(&mut self, tuple: &Tuple) -> FlowKey {
+        let side = self.side();
+        let scope = match side {
+            Side::Egress => self.vm(),
+            Side::Ingress => self.net(),
+        };
+        FlowKey {
+            side,
+            scope,
+            tuple: *tuple,
         }
     }
 

@@ -1,9 +1,10 @@
 //! A program that draws 300 lists of operations from a seeded generator, and compares what tables, decisions and flow caches answer with the plain
-//! policy: after every twelfth draw, and at the end of each list. Decisions are compared without a cache, and the cache by itself.
+//! policy: after every twelfth draw, and at the end of each list. Decisions are compared with an empty cache and, twice a list, with one of drawn puts,
+//! whose outcomes are what the plain policy says at their stamps: the answer must be the policy's, found fast exactly where the list of puts answers.
 //!
 //! The entries are those that a log takes, of every kind, and among them are orders. It writes a line for each hundred lists and for each answer that
-//! differs, and ends with status 1 where one did. It promises nothing beside that it ends. It stands on the crates whose calls it compares, and on the
-//! plain functions of `and_policy`.
+//! differs, and ends with status 1 where one did, or where no decision was to be fast or none slow. It promises nothing beside that it ends. It stands
+//! on the crates whose calls it compares, and on the plain functions of `and_policy`.
 #![tactic(auto)]
 
 ghost use Rattle.std.specs.Prelude.{◌≡◌, ◌<◌};
@@ -11,14 +12,15 @@ ghost use Rattle.std.specs.Prelude.{◌≡◌, ◌<◌};
 mod comparing;
 mod deciding;
 mod drawing;
+mod filled;
 mod found;
 mod frames;
 mod plainly;
 
 use crate::comparing::compare_tables;
-use crate::deciding::{GATEWAYS, compare_drawn};
+use crate::deciding::{GATEWAYS, compare_drawn, compare_full};
 use crate::drawing::Draws;
-use crate::found::{Difference, Found};
+use crate::found::Found;
 use crate::plainly::{Puts, entries_of};
 use and_flow::FlowCache;
 use and_policy::{Entry, Log, NoMemory, Op, Tables};
@@ -58,25 +60,39 @@ fn draw(alloc: Global, draws: &mut Draws, log: &mut Log) -> Result<Option<Op>, N
     Ok(Some(Op::Entry(entry)))
 }
 
-/// Draws a list and compares it; gives what differed.
-fn run_list<L: Ledger>(
+/// Each call at all operations of the tables; where `full` says so, with a full cache as well.
+fn compare<L: Ledger>(
     alloc: Global,
-    list: u32,
+    found: &mut Found,
+    draws: &mut Draws,
+    tables: &HostTables,
+    gates: &GatewayTables,
+    cache: &mut FlowCache,
+    puts: &mut Puts,
+    full: bool,
     steps: &mut Steps<L>,
-) -> Result<Vec<Difference>, NoMemory> {
+) -> Result<(), NoMemory> {
+    found.at = tables.at();
+    let entries = entries_of(alloc, tables.ops())?;
+    compare_tables(alloc, found, draws, tables, gates, &entries, steps)?;
+    compare_drawn(
+        alloc, found, draws, tables, gates, &entries, cache, puts, steps,
+    )?;
+    if full {
+        compare_full(alloc, found, draws, tables, gates, &entries, steps)?;
+    }
+    Ok(())
+}
+
+/// Draws a list and compares it; gives what was found.
+fn run_list<L: Ledger>(alloc: Global, list: u32, steps: &mut Steps<L>) -> Result<Found, NoMemory> {
     let mut draws = Draws::new(list);
     let mut log = Log::make(alloc, 4)?;
     let mut tables = HostTables::make(alloc, 0, GATEWAYS)?;
     let mut gates = GatewayTables::make(alloc)?;
     let mut cache = FlowCache::make(alloc)?;
-    let mut puts = Puts {
-        entries: Vec::new(alloc),
-    };
-    let mut found = Found {
-        list,
-        at: 0,
-        differences: Vec::new(alloc),
-    };
+    let mut puts = Puts::new(alloc);
+    let mut found = Found::new(alloc, list);
     for turn in 1..=DRAWN {
         if let Some(op) = draw(alloc, &mut draws, &mut log)? {
             if tables.at() < 4_294_967_295 && gates.at() < 4_294_967_295 {
@@ -85,17 +101,13 @@ fn run_list<L: Ledger>(
             }
         }
         if turn % 12 == 0 || turn == DRAWN {
-            found.at = tables.at();
-            let entries = entries_of(alloc, tables.ops())?;
-            compare_tables(
-                alloc, &mut found, &mut draws, &tables, &gates, &entries, steps,
-            )?;
-            compare_drawn(
-                alloc, &mut found, &mut draws, &tables, &gates, &mut cache, &mut puts, steps,
+            let full = turn == 72 || turn == DRAWN;
+            compare(
+                alloc, &mut found, &mut draws, &tables, &gates, &mut cache, &mut puts, full, steps,
             )?;
         }
     }
-    Ok(found.differences)
+    Ok(found)
 }
 
 /// All lists; says whether none differed.
@@ -105,22 +117,24 @@ fn run<L: Ledger>(rt: &HostRuntime, blank: Blank) -> io::Result<bool>
     requires some { 0 < blank.parts }
 {
     let mut steps: Steps<L> = Steps::new(blank);
-    let mut good = true;
+    let (mut good, mut fast, mut slow) = (true, false, false);
     for list in 1..=300_u32 {
-        let Ok(differences) = run_list(rt.alloc(), list, &mut steps) else {
+        let Ok(found) = run_list(rt.alloc(), list, &mut steps) else {
             println!(rt; "list {list}: no memory")?;
             return Ok(false);
         };
-        for difference in &differences {
+        for difference in &found.differences {
             let (list, at, call) = (difference.list, difference.at, difference.call);
             println!(rt; "list {list}, {at} operations: {call} differs")?;
             good = false;
         }
+        fast = fast || found.fast;
+        slow = slow || found.slow;
         if list % 100 == 0 {
             println!(rt; "{list} lists compared")?;
         }
     }
-    Ok(good)
+    Ok(good && fast && slow)
 }
 
 fn main(rt: HostRuntime) -> io::Result<ExitCode> {

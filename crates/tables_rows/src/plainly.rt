@@ -62,6 +62,13 @@ fn group_of(key: &FlowKey) -> u16 {
 }
 
 impl Puts {
+    /// No entries.
+    pub(crate) fn new(alloc: Global) -> Puts {
+        Puts {
+            entries: Vec::new(alloc),
+        }
+    }
+
     /// The key's entry, where its stamp is at least the floor.
     pub(crate) fn look(&self, key: &FlowKey, floor: u32) -> Option<Outcome> {
         let mut found = None;

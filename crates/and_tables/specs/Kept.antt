@@ -7,11 +7,12 @@ use Rattle.and_policy.specs.Fitting.{IsLog}
 use Rattle.and_policy.specs.Programmes.{entries, is_entry_of, orders_for, living, touched}
 use Rattle.and_policy.specs.Logs.{now}
 use Rattle.and_tables.specs.declared.host.HostTables.TheInside.{Inside}
-use Rattle.and_tables.specs.Hints.{AreMarked, IsSoon}
+use Rattle.and_tables.specs.Hints.{AreMarked}
 use Rattle.and_tables.specs.Lasts.{IsLast}
 use Rattle.and_policy.specs.Registers.{IsRegister}
 use Rattle.and_tables.specs.Books.{IsRulebook}
 use Rattle.and_tables.specs.Numbers.{at, at_pair}
+use Rattle.and_tables.specs.Placing.{ArePlaced, IsSoon, orders_in}
 
 abbrev pub the_order : Option Op → Option Order
 the_order (Some (ops.Offload order)) = Some order
@@ -50,8 +51,9 @@ pub record IsKept (t : Inside) : Type 0 where
   pub short : length t.ops.items < 2 ^ 32
   pub few : t.ticks ≤ length t.ops.items
   pub keeps : Keeps t.ops.items t.ticks (at t.index.entered) (at_pair t.index.ordered)
-  pub marked : AreMarked (at t.index.marks) (at_pair t.index.ordered) t.live.items
+  pub placed : ArePlaced (length t.ops.items) t.live.items
+  pub marked : AreMarked (at t.index.marks) (orders_in (at_pair t.index.ordered) t.live.items)
   pub soon : IsSoon t.index.soonest t.live.items
-  pub knows : Knows t.ops.items t.live.items (at t.index.touched)
+  pub knows : Knows t.ops.items (orders_in (at_pair t.index.ordered) t.live.items) (at t.index.touched)
   pub register : IsLog None (entries t.ops.items) → IsRegister t.register (entries t.ops.items)
   pub rules : IsLog None (entries t.ops.items) → IsRulebook t.rules (entries t.ops.items)

@@ -6,3 +6,4 @@ pub mod Books
 pub mod Kept
 pub mod Indexes
 pub mod Hints
+pub mod Placing

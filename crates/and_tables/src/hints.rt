@@ -1,15 +1,16 @@
-//! What tells cheaply that an operation ends no live order, so that the live orders need not be passed over.
+//! What tells cheaply that an operation ends no live order but one that it renews, so that the live orders need not be passed over.
 ghost use Rattle.std.specs.Prelude.{◌≡◌, ◌<◌, ◌≤◌, ◌+◌, ◌&&◌, true, false, ℕ, length, if◌then◌else◌};
 ghost use Rattle.std.specs.List.{filter};
 ghost use Rattle.std.specs.HashMap as hash;
 ghost use Rattle.std.specs.Vec.{vec_len, vec_capacity};
 ghost use Rattle.and_policy.specs.Programmes as programmes;
 ghost use Rattle.and_tables.specs.Hints as hint;
-ghost use Rattle.and_tables.specs.Hints.{IsSoon};
 ghost use Rattle.and_tables.specs.Numbers.{at, at_pair};
-ghost use Rattle.and_tables.specs.Steps as step;
+ghost use Rattle.and_tables.specs.Placing as placing;
+ghost use Rattle.and_tables.specs.Placing.{IsSoon};
 
-use crate::maps::{last, last_of, put};
+use crate::maps::{last, put};
+use crate::placed::Placed;
 use crate::steps::{end_orders, touch_ended};
 use and_policy::{Op, Order};
 use std::collections::HashMap;
@@ -24,59 +25,53 @@ fn is_marked(marks: &HashMap<u32, u32>, name: Option<u32>) -> bool
     }
 }
 
-// Whether it is an order for a network and an address that had one.
-fn is_renewed(ordered: &HashMap<(u32, u32), u32>, op: &Op) -> bool
-    ensures { result ≡ hint.is_renewed (at_pair ordered.now) op.now }
-{
-    match op {
-        Op::Offload(order) => last_of(ordered, order.net, order.ip) > 0,
-        Op::Entry(_) => false,
-    }
-}
-
-/// Whether the operation may end a live order.
+/// Whether an operation that names this network may end a live order, at so many ticks. An order that renews another is told by its place.
 pub(crate) fn may_end(
     marks: &HashMap<u32, u32>,
-    ordered: &HashMap<(u32, u32), u32>,
     soonest: u32,
     name: Option<u32>,
-    op: &Op,
     ticks: u32,
 ) -> bool
-    ensures { result ≡ hint.may_end (at marks.now) (at_pair ordered.now) soonest name op.now ticks }
+    ensures { result ≡ hint.may_end (at marks.now) soonest name ticks }
 {
-    soonest <= ticks || is_marked(marks, name) || is_renewed(ordered, op)
+    soonest <= ticks || is_marked(marks, name)
 }
 
-/// Writes the place at the source network of each order that the operation ends; where it ends none, none is looked at.
+/// Writes the place at the source network of each order that the operation ends; where `ends` does not say that it may, none is looked at.
 pub(crate) fn touch_where(
     ends: bool,
-    live: &[Order],
+    live: &[Placed],
+    ordered: &HashMap<(u32, u32), u32>,
     name: Option<u32>,
     op: &Op,
     ticks: u32,
     here: u32,
     touched: &mut HashMap<u32, u32>,
 )
-    requires room { length live.now < hash.spare touched.old }
-    requires quiet { ends ≡ false → (net : ℕ) → step.ends_by name op.now ticks live.now net ≡ false }
-    ensures numbers { (net : ℕ) → at touched.new net ≡ (if step.ends_by name op.now ticks live.now net then here else at touched.old net) }
+    requires { length live.now < hash.spare touched.old }
+    ensures numbers { (net : ℕ) → at touched.new net ≡ (if ends && placing.ends_in (at_pair ordered.now) name op.now ticks live.now net then here else at touched.old net) }
     ensures spare { hash.spare touched.old ≤ hash.spare touched.new + length live.now }
 {
     if ends {
-        touch_ended(live, name, op, ticks, here, touched);
+        touch_ended(live, ordered, name, op, ticks, here, touched);
     }
 }
 
-/// Takes the orders out that the operation ends; where it ends none, none is looked at.
-pub(crate) fn end_where(ends: bool, live: &mut Vec<Order>, name: Option<u32>, op: &Op, ticks: u32)
-    requires { ends ≡ false → filter (step.stays_by name op.now ticks) live.old.items ≡ live.old.items }
-    ensures items { live.new.items ≡ filter (step.stays_by name op.now ticks) live.old.items }
+/// Takes the orders out that are ended; where `ends` does not say that the operation may end one, none is looked at.
+pub(crate) fn end_where(
+    ends: bool,
+    live: &mut Vec<Placed>,
+    ordered: &HashMap<(u32, u32), u32>,
+    name: Option<u32>,
+    op: &Op,
+    ticks: u32,
+)
+    ensures items { live.new.items ≡ (if ends then filter (placing.remains (at_pair ordered.now) name op.now ticks) live.old.items else live.old.items) }
     ensures len { vec_len live.new ≤ vec_len live.old }
     ensures capacity { vec_capacity live.new ≡ vec_capacity live.old }
 {
     if ends {
-        end_orders(live, name, op, ticks);
+        end_orders(live, ordered, name, op, ticks);
     }
 }
 
@@ -116,14 +111,14 @@ pub(crate) fn mark(ends: bool, marks: &mut HashMap<u32, u32>, name: Option<u32>,
 }
 
 // The least number of ticks at which one of the orders is over.
-fn soonest_of(live: &[Order]) -> u32
+fn soonest_of(live: &[Placed]) -> u32
     ensures { IsSoon result live.now }
 {
     let mut soonest = u32::MAX;
     let mut place = live.len();
     while place > 0 {
         place -= 1;
-        let until = live[place].until;
+        let until = live[place].order.until;
         if until < soonest {
             soonest = until;
         }
@@ -132,7 +127,7 @@ fn soonest_of(live: &[Order]) -> u32
 }
 
 /// Before so many ticks none of the live orders is over, among which the operation's own is.
-pub(crate) fn soonest_after(ends: bool, soonest: u32, live: &[Order], op: &Op) -> u32
+pub(crate) fn soonest_after(ends: bool, soonest: u32, live: &[Placed], op: &Op) -> u32
     ensures anew { ends ≡ true → IsSoon result live.now }
     ensures kept { ends ≡ false → result ≡ hint.sooner soonest op.now }
 {

@@ -18,6 +18,7 @@ ghost use Rattle.and_tables.specs.Books.{IsRulebook};
 use crate::hints::{end_where, soonest_after};
 use crate::index::Index;
 use crate::maps::{last, last_of};
+use crate::placed::Placed;
 use crate::rulebook::Rulebook;
 use crate::steps::{begin_order, named, ticks_of};
 use and_policy::{NoMemory, Op, Order, Register, Rule, Tables};
@@ -40,8 +41,8 @@ pub struct HostTables {
     ticks: u32,
     /// Places by keys.
     index: Index,
-    /// The live orders, the oldest first.
-    live: Vec<Order>,
+    /// The live orders, the oldest first, and among them some that a later order has ended: those are not the last of their network and address.
+    live: Vec<Placed>,
     /// The VMs.
     register: Register,
     /// The live rules.
@@ -215,11 +216,11 @@ impl Tables for HostTables {
         let here = self.ops.len() as u32 + 1;
         let ticks = self.ticks + ticks_of(&op);
         let name = named(&self.register, &op);
-        let ends = self.index.may_end(name, &op, ticks);
+        let ends = self.index.may_end(name, ticks);
         note(&mut self.register, &op);
         self.index.apply(ends, &self.live, name, &op, ticks, here);
-        end_where(ends, &mut self.live, name, &op, ticks);
-        begin_order(&mut self.live, &op, ticks);
+        end_where(ends, &mut self.live, &self.index.ordered, name, &op, ticks);
+        begin_order(&mut self.live, &op, ticks, here);
         self.index.soonest = soonest_after(ends, self.index.soonest, &self.live, &op);
         self.ops.push_reserved(op);
         self.ticks = ticks;

@@ -1,15 +1,17 @@
 //! What is looked up.
-ghost use Rattle.std.specs.Prelude.{◌≡◌, ◌<◌, ℕ, false, length, if◌then◌else◌, OnOk};
+ghost use Rattle.std.specs.Prelude.{◌≡◌, ◌<◌, ◌&&◌, ℕ, length, if◌then◌else◌, OnOk};
 ghost use Rattle.and_policy.specs.Programmes as programmes;
 ghost use Rattle.and_tables.specs.Hints as hints;
 ghost use Rattle.and_tables.specs.Hints.{marked_by};
 ghost use Rattle.and_tables.specs.Numbers.{at, at_pair};
+ghost use Rattle.and_tables.specs.Placing as placing;
 ghost use Rattle.and_tables.specs.Steps as step;
 ghost use Rattle.and_tables.specs.Indexes.{IsSameIndex, HasRoom};
 
 use crate::hints::{mark, may_end, touch_where};
+use crate::placed::Placed;
 use crate::steps::{enter, order, own};
-use and_policy::{NoMemory, Op, Order};
+use and_policy::{NoMemory, Op};
 use std::alloc::Global;
 use std::collections::HashMap;
 
@@ -59,33 +61,41 @@ impl Index {
         Ok(())
     }
 
-    /// Whether the operation may end a live order.
-    pub(crate) fn may_end(&self, name: Option<u32>, op: &Op, ticks: u32) -> bool
-        ensures { result ≡ hints.may_end (at self.now.marks) (at_pair self.now.ordered) self.now.soonest name op.now ticks }
+    /// Whether an operation that names this network may end a live order, at so many ticks, but one that it renews.
+    pub(crate) fn may_end(&self, name: Option<u32>, ticks: u32) -> bool
+        ensures { result ≡ hints.may_end (at self.now.marks) self.now.soonest name ticks }
     {
-        may_end(&self.marks, &self.ordered, self.soonest, name, op, ticks)
+        may_end(&self.marks, self.soonest, name, ticks)
     }
 
-    /// One operation more. Where it ends no live order, none is looked at.
+    /// One operation more. Where `ends` does not say that it may end a live order, none is looked at.
     pub(crate) fn apply(
         &mut self,
         ends: bool,
-        live: &[Order],
+        live: &[Placed],
         name: Option<u32>,
         op: &Op,
         ticks: u32,
         here: u32,
     )
-        requires room { HasRoom (length live.now) self.old }
-        requires quiet { ends ≡ false → (net : ℕ) → step.ends_by name op.now ticks live.now net ≡ false }
+        requires { HasRoom (length live.now) self.old }
         ensures entered { (net : ℕ) → at self.new.entered net ≡ (if programmes.is_net name net then here else at self.old.entered net) }
         ensures ordered { (net ip : ℕ) → at_pair self.new.ordered net ip ≡ (if programmes.orders_for net ip op.now then here else at_pair self.old.ordered net ip) }
         ensures touched { (net : ℕ) → at self.new.touched net
-            ≡ (if programmes.is_net (step.own name op.now) net then here else (if step.ends_by name op.now ticks live.now net then here else at self.old.touched net)) }
+            ≡ (if programmes.is_net (step.own name op.now) net then here else (if ends && placing.ends_in (at_pair self.old.ordered) name op.now ticks live.now net then here else at self.old.touched net)) }
         ensures marks { (net : ℕ) → at self.new.marks net ≡ marked_by ends name op.now (at self.old.marks) net }
         ensures soonest { self.new.soonest ≡ self.old.soonest }
     {
-        touch_where(ends, live, name, op, ticks, here, &mut self.touched);
+        touch_where(
+            ends,
+            live,
+            &self.ordered,
+            name,
+            op,
+            ticks,
+            here,
+            &mut self.touched,
+        );
         enter(&mut self.touched, own(name, op), here);
         enter(&mut self.entered, name, here);
         order(&mut self.ordered, op, here);

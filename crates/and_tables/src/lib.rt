@@ -8,6 +8,7 @@ mod hints;
 mod host;
 mod index;
 mod maps;
+mod placed;
 mod rulebook;
 mod rules;
 mod steps;

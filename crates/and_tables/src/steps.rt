@@ -7,9 +7,11 @@ ghost use Rattle.and_policy.specs.declared.entry.Entry.{Entry};
 ghost use Rattle.and_policy.specs.Programmes as programmes;
 ghost use Rattle.and_policy.specs.Registers.{IsRegister};
 ghost use Rattle.and_tables.specs.Numbers.{at, at_pair};
+ghost use Rattle.and_tables.specs.Placing as placing;
 ghost use Rattle.and_tables.specs.Steps as step;
 
 use crate::maps::{put, put_of};
+use crate::placed::{Placed, is_last};
 use and_policy::{Entry, Op, Order, Register};
 use std::collections::HashMap;
 
@@ -69,18 +71,51 @@ fn stays(name: Option<u32>, op: &Op, ticks: u32, order: &Order) -> bool
         && ticks < order.until
 }
 
-/// Takes the orders out that the operation ends.
-pub(crate) fn end_orders(live: &mut Vec<Order>, name: Option<u32>, op: &Op, ticks: u32)
-    ensures items { live.new.items ≡ filter (step.stays_by name op.now ticks) live.old.items }
+// Whether it is the last order for its network and address, and lives on.
+fn remains(
+    ordered: &HashMap<(u32, u32), u32>,
+    name: Option<u32>,
+    op: &Op,
+    ticks: u32,
+    placed: &Placed,
+) -> bool
+    ensures { result ≡ placing.remains (at_pair ordered.now) name op.now ticks placed.now }
+{
+    is_last(ordered, placed) && stays(name, op, ticks, &placed.order)
+}
+
+// Whether it is the last order for its network and address, and the operation ends it.
+fn is_over(
+    ordered: &HashMap<(u32, u32), u32>,
+    name: Option<u32>,
+    op: &Op,
+    ticks: u32,
+    placed: &Placed,
+) -> bool
+    ensures { result ≡ placing.is_over (at_pair ordered.now) name op.now ticks placed.now }
+{
+    is_last(ordered, placed) && !stays(name, op, ticks, &placed.order)
+}
+
+/// Takes the orders out that the operation ends, and those that a later one has ended.
+pub(crate) fn end_orders(
+    live: &mut Vec<Placed>,
+    ordered: &HashMap<(u32, u32), u32>,
+    name: Option<u32>,
+    op: &Op,
+    ticks: u32,
+)
+    ensures items { live.new.items ≡ filter (placing.remains (at_pair ordered.now) name op.now ticks) live.old.items }
     ensures len { vec_len live.new ≤ vec_len live.old }
     ensures capacity { vec_capacity live.new ≡ vec_capacity live.old }
 {
-    live.retain(|order| stays(name, op, ticks, order));
+    live.retain(|placed| remains(ordered, name, op, ticks, placed));
 }
 
 /// Writes the place at the source network of each order that the operation ends.
 pub(crate) fn touch_ended(
-    live: &[Order],
+    live: &[Placed],
+    ordered: &HashMap<(u32, u32), u32>,
     name: Option<u32>,
     op: &Op,
     ticks: u32,
@@ -88,15 +123,15 @@ pub(crate) fn touch_ended(
     touched: &mut HashMap<u32, u32>,
 )
     requires { length live.now < hash.spare touched.old }
-    ensures numbers { (net : ℕ) → at touched.new net ≡ (if step.ends_by name op.now ticks live.now net then here else at touched.old net) }
+    ensures numbers { (net : ℕ) → at touched.new net ≡ (if placing.ends_in (at_pair ordered.now) name op.now ticks live.now net then here else at touched.old net) }
     ensures spare { hash.spare touched.old ≤ hash.spare touched.new + length live.now }
 {
     let mut place = live.len();
     while place > 0 {
         place -= 1;
-        let order = &live[place];
-        if !stays(name, op, ticks, order) {
-            put(touched, order.net, here);
+        let placed = &live[place];
+        if is_over(ordered, name, op, ticks, placed) {
+            put(touched, placed.order.net, here);
         }
     }
 }
@@ -134,12 +169,15 @@ pub(crate) fn order(ordered: &mut HashMap<(u32, u32), u32>, op: &Op, here: u32)
 }
 
 /// Adds the order that the operation gives, where it lives.
-pub(crate) fn begin_order(live: &mut Vec<Order>, op: &Op, ticks: u32)
+pub(crate) fn begin_order(live: &mut Vec<Placed>, op: &Op, ticks: u32, here: u32)
     requires { vec_len live.old < vec_capacity live.old }
-    ensures { live.new.items ≡ live.old.items ++ step.fresh_by ticks op.now }
+    ensures { live.new.items ≡ live.old.items ++ placing.fresh_at here ticks op.now }
 {
     match op {
-        Op::Offload(order) if ticks < order.until => live.push_reserved(*order),
+        Op::Offload(order) if ticks < order.until => live.push_reserved(Placed {
+            place: here,
+            order: *order,
+        }),
         _ => {}
     }
 }

@@ -6,5 +6,5 @@ pub loop-place-preserved-then-until-soonest : goal.loop-place-preserved-then-unt
 loop-place-preserved-then-until-soonest c = record {
   within = omega (arith, c.loop-place.invariant.within);
   soon =
-      soon_step c.loop-place.soonest c.args.live.now c.loop-place.place (record { net = 0; ip = 0; to_net = 0; to_host = 0; until = 0 }) (omega (arith, c.loop-place-test.true)) c.loop-place.invariant.within c.loop-place.invariant.soon (omega (arith, c.if-until-soonest.true));
+      soon_step c.loop-place.soonest c.args.live.now c.loop-place.place (record { place = 0; order = record { net = 0; ip = 0; to_net = 0; to_host = 0; until = 0 } }) (omega (arith, c.loop-place-test.true)) c.loop-place.invariant.within c.loop-place.invariant.soon (omega (arith, c.if-until-soonest.true));
 }

@@ -1,5 +1,5 @@
 use Rattle.std.proofs.Common.{◌≤◌, drop, length}
-use Rattle.and_tables.specs.Hints.{IsSoon}
+use Rattle.and_tables.specs.Placing.{IsSoon}
 use Rattle.and_tables.proofs.hints.soonest_of.Given as goal
 
 abbrev pub invariant-loop-place : goal.invariant-loop-place

@@ -1,12 +1,7 @@
-//! Tests of what is kept of a run, the book, the replay and the turn lock: what no clause says, and each call with an answer
-//! for want of memory once with memory.
+//! Tests of the turn lock: what no clause says, with and without threads, over notes and over a book. What a run does is shown by the rows.
 #![tactic(auto)]
 
 #[cfg(test)]
 mod book;
-#[cfg(test)]
-mod kept;
-#[cfg(test)]
-mod replay;
 #[cfg(test)]
 mod turn;

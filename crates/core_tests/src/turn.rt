@@ -2,7 +2,6 @@
 ghost use Rattle.std.specs.Prelude.{◌≡◌, ◌+◌, ◌^◌, ◌<◌, ◌≤◌, [], ◌∷◌, ◌++◌, All, IfOk, length, MatchBool, vec_len, vec_capacity};
 ghost use Rattle.and_turn.specs.Seats.{IsFree, SitsAt, made_of, number_of, out_of};
 
-use crate::book::make_book;
 use and_turn::{Seat, Tale, TurnLock};
 use std::alloc::{AllocError, Global};
 use std::sync::Wait;
@@ -177,19 +176,5 @@ fn eight_threads_take_a_thousand_turns_each(rt: HostRuntime) -> Result<(), Fail>
     assert!(rt; complete);
     assert_eq!(rt; closed.notes.len(), THREADS * TURNS as usize);
     assert!(rt; are_in_order(closed.notes.as_slice()));
-    Ok(())
-}
-
-#[test]
-fn a_book_is_handed_on(rt: HostRuntime) -> Result<(), Fail> {
-    let book = make_book(rt.alloc()).ok().ok_or("there is memory")?;
-    let (lock, mut first) = TurnLock::make(rt.alloc(), book).expect(&rt, "memory");
-    let book = lock.enter(&rt, &mut first);
-    assert_eq!(rt; book.line_count(), 0);
-    book.is_run();
-    lock.leave(&mut first, book);
-    let closed = lock.close(first);
-    assert!(rt; closed.lines().is_empty());
-    assert_eq!(rt; closed.plan().settings.hosts, 1);
     Ok(())
 }

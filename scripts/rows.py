@@ -89,10 +89,10 @@ def capture(*frames, order="<", magic=0xA1B2C3D4):
 ROWS = []
 
 
-def row(name, shows, scenario, data, trace="", report="", words=None, without=(), lengths=None, said=None, more=None):
-    """A row: its name, what it shows, its two files, lines that it must have, and what is not plain of it."""
-    ROWS.append({"name": name, "shows": shows, "scenario": scenario, "capture": data, "trace": trace, "report": report,
-                 "words": words, "without": without, "lengths": lengths or {}, "said": said, "more": more or {}})
+def row(name, shows, scenario, data, trace="", report="", words=None, without=(), lengths=None, said=None, more=None, failing=None, left=()):
+    """A row: its name, what it shows, its two files, lines that it must have, and what is not plain of it: the call that fails, and what stands then."""
+    ROWS.append({"name": name, "shows": shows, "scenario": scenario, "capture": data, "trace": trace, "report": report, "words": words,
+                 "without": without, "lengths": lengths or {}, "said": said, "more": more or {}, "failing": failing, "left": left})
 
 
 BEGINNINGS = []
@@ -120,6 +120,8 @@ def whole_runs():
         report="delivered 1\nsends 2\nhover 1\nslow 2\nvm a sent 1 received 0\nvm b sent 0 received 1")
     row("dropped-by-default", "No ingress rule takes port 81, so the packet is dropped by the implied verdict.", base(SEND), capture(frame(port=81)),
         trace="ingress h1.w0 0 4 slow vm 1 running implied drop", report="drop ingress 7 implied 1")
+    row("sixty-four-hosts", "The most hosts, and an empty script.", '{"hosts":64,"gateways":1,"script":[]}', capture())
+    row("two-workers", "A host with two workers, as where nothing is said.", base(SEND, settings='"workers":2,'), one, report="delivered 1")
     row("two-vms-on-one-host", "The way leads over the gateway on one host too.", base(SEND, hosts=1), one,
         report="delivered 1\nsends 2\nhover 1\nslow 2")
     row("two-vms-on-one-host-dropped", "The same to a port that no rule takes.", base(SEND, hosts=1), capture(frame(port=81)),
@@ -272,6 +274,33 @@ def refusals():
     row("scenario-that-is-not-there", "The scenario is read first.", None, one, said="read failed: scenario.json")
 
 
+# Items and settings that the system cannot run so far are refused alike, after all that the grammar refuses. These rows go with the refusal.
+NOT_BUILT = "scenario: NotBuilt"
+
+
+def not_built():
+    """What cannot be run yet, and what is refused before it."""
+    row("tick-that-is-not-built", "The system has no clock yet.", base(TICK), capture(), said=NOT_BUILT)
+    row("gateways-that-are-not-built", "The system has one gateway so far.", '{"hosts":1,"gateways":2,"script":[]}', capture(), said=NOT_BUILT)
+    row("grammar-before-what-is-built", "An item that is out of range, after one that cannot be run yet.",
+        '{"hosts":1,"gateways":1,"script":[{"do":"tick"},{"do":"add_net","net":0}]}', capture(), said="scenario: Range /script/1/net")
+
+
+def faults():
+    """Reads, writes and puts that fail: each call of a run in turn. What was written before stands, and nothing else is changed."""
+    one, written = capture(F1), ("out.trace", "out.delivered.pcap", "out.underlay.pcap")
+    for name, shows, failing, said, left in [
+            ("scenario-whose-read-fails", "The file is there, and the run's first call fails.", "files 0", "read failed: scenario.json", 0),
+            ("capture-whose-read-fails", "The second call fails.", "files 1", "read failed: capture.pcap", 0),
+            ("trace-whose-write-fails", "The third call fails: there is no trace, and no report.", "files 2", "write failed: out.trace", 0),
+            ("delivered-capture-whose-write-fails", "The trace stands.", "files 3", "write failed: out.delivered.pcap", 1),
+            ("underlay-capture-whose-write-fails", "The trace and the delivered capture stand.", "files 4", "write failed: out.underlay.pcap", 2),
+            ("report-whose-put-fails", "All files stand, and there is no report.", "out 0", "write failed: output", 3)]:
+        row(name, shows, base(SEND), one, failing=failing, said=said, left=written[:left])
+    row("refusal-that-is-not-told", "A failure of standard error changes no status.", '{"hosts":2,"gateways":1,"colour":1,"script":[]}', one,
+        failing="err 0", said="scenario: Unknown /colour")
+
+
 USAGE = ["usage: andromeda replay SCENARIO CAPTURE OUT [--seed N]", "       andromeda threads SCENARIO CAPTURE OUT --threads T",
          "       andromeda drill N"]
 
@@ -341,13 +370,19 @@ def composed(it):
     for kind in ("words", "without"):
         if it[kind]:
             files[kind] = "".join(f"{word}\n" for word in it[kind]).encode()
+    if it["failing"]:
+        files["failing"] = f"{it['failing']}\n".encode()
     if it["lengths"]:
         files["lengths"] = "".join(f"{name} {length}\n" for name, length in it["lengths"].items()).encode()
     status = 0
     if it["said"] is not None:
         files["error"] = f"{it['said']}\n".encode()
-        status = {"usage": 1, "scenario": 2, "capture": 3, "read failed": 4, "too long": 7}[it["said"].split(":")[0]]
-        if status in (2, 3):
+        status = {"usage": 1, "scenario": 2, "capture": 3, "read failed": 4, "write failed": 5, "too long": 7}[it["said"].split(":")[0]]
+        if it["left"]:
+            files.update({name: data for name, data in run_texts(it).items() if name in it["left"]})
+        if it["failing"] and it["failing"].startswith("err"):
+            del files["error"]
+        if status in (2, 3) and it["said"] != NOT_BUILT:
             padded = [files[n].ljust(it["lengths"].get(n, 0), b"\0") for n in ("scenario.json", "capture.pcap")]
             try:
                 model.replay(*padded)
@@ -407,7 +442,7 @@ def known_bytes(folders):
 
 def all_files():
     """Every file of the folder, by its path."""
-    for part in (whole_runs, offloads, migrations, sealings, balanced_and_parked, refusals, words, a_day):
+    for part in (whole_runs, offloads, migrations, sealings, balanced_and_parked, refusals, not_built, faults, words, a_day):
         part()
     folders = {it["name"]: composed(it) for it in ROWS}
     known_bytes(folders)
@@ -417,8 +452,10 @@ def all_files():
     files["beginnings"] = "".join(f"{it['name']}\n" for it in BEGINNINGS).encode()
     readme = ["# Rows", "",
               "Each folder is a run: what goes in, and what must come out, byte for byte. `words` are the words of the command, one a line, where they are",
-              "not `replay scenario.json capture.pcap out`; `lengths` names files that are filled with zeros to a length; `report` is what goes to standard",
-              "output, `error` what goes to standard error, `status` the status where it is not 0; `without` names outputs that are not compared. The",
+              "not `replay scenario.json capture.pcap out`; `lengths` names files that are filled with zeros to a length; `failing` names the call that fails,",
+              "by its number from 0 among the calls of files, the puts into standard output (`out`) or those into standard error (`err`); `report` is what",
+              "goes to standard output, `error` what goes to standard error, `status` the status where it is not 0; `without` names outputs that are not",
+              "compared. All files are compared, those that went in and those that a run may write: each is there exactly where the row has it. The",
               "program `rows` runs them all; `not-yet` lists those, and the outputs, that the program cannot give so far, with what they wait for.", "",
               "Then the plain program, which computes the definitions of runs, judges each trace that a row has: whether it is legal, complete and in the",
               "plain order, whether each packet has one fate, which has its reason, and whether its decisions are fresh. `beginnings` lists folders whose",

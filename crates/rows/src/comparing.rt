@@ -1,13 +1,16 @@
 //! What a run left, beside what the row wants.
 
-use crate::folder::{file_of, has_line, reason_of, row_text};
+use crate::folder::{file_of, given_file, has_line, reason_of, row_text};
 use crate::running::Ran;
 use and_outside::Files;
 use anyhow::Result;
 use std::alloc::Global;
 
-/// The most bytes of a file that a run may have written.
+/// The most bytes of a file that a run was given or may have written.
 const LONGEST: u64 = 40_000_000;
+
+/// The files that a row gives to its run.
+const GIVEN: [&str; 2] = ["scenario.json", "capture.pcap"];
 
 /// The files that a run may write.
 const WRITTEN: [&str; 3] = ["out.trace", "out.delivered.pcap", "out.underlay.pcap"];
@@ -57,15 +60,13 @@ fn difference(alloc: Global, name: &str, got: &[u8], wanted: &[u8]) -> Result<Op
     }
 }
 
-/// Where a file that the run may have written differs; it is to be there exactly where the row has it.
-fn written_difference<F: Files>(
+/// Where a file that the run has left differs; it is to be there exactly where it is wanted.
+fn left_difference(
     alloc: Global,
-    files: &mut F,
-    row: &str,
-    name: &str,
     ran: &mut Ran,
+    name: &str,
+    wanted: Option<Vec<u8>>,
 ) -> Result<Option<String>> {
-    let wanted = file_of(alloc, files, row, name)?;
     let got = ran.files.read(alloc, name, LONGEST).ok();
     match (got, wanted) {
         (None, None) => Ok(None),
@@ -73,6 +74,35 @@ fn written_difference<F: Files>(
         (None, Some(_)) => Ok(Some(format!(in alloc; "{name} is not written")?)),
         (Some(got), Some(wanted)) => difference(alloc, name, got.as_slice(), wanted.as_slice()),
     }
+}
+
+/// The first file that differs of those that the run was given, which stay as they were, and of those that it may have written.
+fn files_difference<F: Files>(
+    alloc: Global,
+    files: &mut F,
+    row: &str,
+    not_yet: &str,
+    ran: &mut Ran,
+) -> Result<Option<String>> {
+    for name in GIVEN {
+        let wanted = given_file(alloc, files, row, name)?;
+        let found = left_difference(alloc, ran, name, wanted)?;
+        if found.is_some() {
+            return Ok(found);
+        }
+    }
+    let without = row_text(alloc, files, row, "without")?;
+    for name in WRITTEN {
+        if has_line(without.as_str(), name) || reason_of(not_yet, name).is_some() {
+            continue;
+        }
+        let wanted = file_of(alloc, files, row, name)?;
+        let found = left_difference(alloc, ran, name, wanted)?;
+        if found.is_some() {
+            return Ok(found);
+        }
+    }
+    Ok(None)
 }
 
 /// Where the status differs.
@@ -107,15 +137,9 @@ pub fn compare<F: Files>(
     if found.is_some() {
         return Ok(found);
     }
-    let without = row_text(alloc, files, row, "without")?;
-    for name in WRITTEN {
-        if has_line(without.as_str(), name) || reason_of(not_yet, name).is_some() {
-            continue;
-        }
-        let found = written_difference(alloc, files, row, name, ran)?;
-        if found.is_some() {
-            return Ok(found);
-        }
+    let found = files_difference(alloc, files, row, not_yet, ran)?;
+    if found.is_some() {
+        return Ok(found);
     }
     let report = row_text(alloc, files, row, "report")?;
     difference(alloc, "report", ran.out.bytes(), report.as_str().as_bytes())

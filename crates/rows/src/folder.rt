@@ -43,6 +43,32 @@ pub fn row_text<F: Files>(alloc: Global, files: &mut F, row: &str, name: &str) -
     }
 }
 
+/// The length to which the lines ask to fill a file; 0 where they do not name it.
+fn length_in(lines: &str, name: &str) -> usize {
+    match reason_of(lines, name) {
+        Some(digits) => digits.parse::<usize>().unwrap_or(0),
+        None => 0,
+    }
+}
+
+/// A file that the row gives to its run, filled with zeros where the row says so; nothing where the row has none of that name.
+pub fn given_file<F: Files>(
+    alloc: Global,
+    files: &mut F,
+    row: &str,
+    name: &str,
+) -> Result<Option<Vec<u8>>> {
+    let lengths = row_text(alloc, files, row, "lengths")?;
+    let Some(mut bytes) = file_of(alloc, files, row, name)? else {
+        return Ok(None);
+    };
+    let length = length_in(lengths.as_str(), name);
+    if bytes.len() < length {
+        bytes.resize(length, 0)?;
+    }
+    Ok(Some(bytes))
+}
+
 /// The rest of the first line that begins with this word and a space, or nothing.
 pub fn reason_of<'a>(lines: &'a str, word: &str) -> Option<&'a str> {
     for line in lines.lines() {

@@ -219,6 +219,11 @@ def told_of(nanos, records):
     return "accepted " + ("nanos" if nanos else "micros") + "".join(" %d %d %d %s" % (s, f, o, b.hex()) for s, f, o, b in records)
 
 
+def written(link, data, nanos, records):
+    """The capture of a file, as it is written: low byte first, without a time zone."""
+    rows.append((f"written {link} {data.hex()}", formats.write_capture(link, nanos, records).hex()))
+
+
 def captures():
     two = [(1700000000, 123456, 60, b"\x02\x00\xfe"), (1700000001, 999999, 5, b"hello")]
     for order in "<>":
@@ -226,6 +231,9 @@ def captures():
             data = file_of(order, magic, two)
             capture(data, told_of(nanos, two))
             capture(file_of(order, magic, []), told_of(nanos, []))
+            written(1, data, nanos, two)
+            written(101, data, nanos, two)
+            written(1, file_of(order, magic, []), nanos, [])
             capture(file_of(order, magic, two, 3), "Major")
             capture(file_of(order, magic, two, 512), "Major")
             capture(file_of(order, magic, two, 3, 101), "Major")

@@ -1,6 +1,7 @@
 //! A program to check the reading of scenarios and captures by, and the plans of both: each line of its input is the word `scenario` and a
-//! JSON text, the word `capture` and the bytes of a file in hexadecimal digits, or the word `plan` with such digits and a JSON text. It writes a
-//! line for each: `accepted` and what was read of a capture, the fault's name and its path or place, or what is planned.
+//! JSON text, the word `capture` and the bytes of a file in hexadecimal digits, the word `written` with a link type and such digits, or the word
+//! `plan` with such digits and a JSON text. It writes a line for each: `accepted` and what was read of a capture, the fault's name and its path or
+//! place, the digits of the capture as it is written again, or what is planned.
 //!
 //! Its lines are written by `scripts/input_rows.py`. It promises nothing: the stored run shows what is read.
 #![tactic(auto)]
@@ -9,7 +10,7 @@ ghost use Rattle.std.specs.Prelude.{◌≤◌};
 
 mod planned;
 
-use and_capture::{Capture, CaptureFault, Taken, read_capture};
+use and_capture::{Capture, CaptureFault, Taken, read_capture, write_capture};
 use and_script::{ScenarioFault, read_scenario};
 use planned::tell_plan;
 use std::alloc::Global;
@@ -81,8 +82,9 @@ fn tell_frames(rt: &HostRuntime, capture: &Capture) -> io::Result<()> {
     println!(rt; "")
 }
 
-fn tell_capture(rt: &HostRuntime, bytes: &[u8]) -> io::Result<()> {
-    match read_capture(rt.alloc(), bytes) {
+fn tell_capture(rt: &HostRuntime, digits: &[u8]) -> io::Result<()> {
+    let bytes = bytes_of(rt.alloc(), digits)?;
+    match read_capture(rt.alloc(), bytes.as_slice()) {
         Ok(capture) => tell_frames(rt, &capture),
         Err(CaptureFault::CutHeader) => println!(rt; "CutHeader"),
         Err(CaptureFault::Magic) => println!(rt; "Magic"),
@@ -95,18 +97,47 @@ fn tell_capture(rt: &HostRuntime, bytes: &[u8]) -> io::Result<()> {
     }
 }
 
+/// The capture of a file, written again under a link type.
+fn tell_written(rt: &HostRuntime, words: &str) -> io::Result<()> {
+    let (link, digits) = words.split_once(' ').unwrap_or(("", words));
+    let link = link.parse::<u32>().unwrap_or(0);
+    let bytes = bytes_of(rt.alloc(), digits.as_bytes())?;
+    let Ok(capture) = read_capture(rt.alloc(), bytes.as_slice()) else {
+        return println!(rt; "no capture");
+    };
+    let Ok(written) = write_capture(rt.alloc(), link, &capture) else {
+        return println!(rt; "no memory");
+    };
+    for byte in written.as_slice() {
+        print!(rt; "{byte:02x}")?;
+    }
+    println!(rt; "")
+}
+
+fn tell_planned(rt: &HostRuntime, inputs: &str) -> io::Result<()> {
+    let (digits, text) = inputs.split_once(' ').unwrap_or((inputs, ""));
+    let bytes = bytes_of(rt.alloc(), digits.as_bytes())?;
+    tell_plan(rt, bytes.as_slice(), text.as_bytes())
+}
+
+/// Answers a line of these words.
+fn tell(rt: &HostRuntime, kind: &str, rest: &str) -> io::Result<()> {
+    if kind == "scenario" {
+        tell_scenario(rt, rest.as_bytes())
+    } else if kind == "capture" {
+        tell_capture(rt, rest.as_bytes())
+    } else if kind == "written" {
+        tell_written(rt, rest)
+    } else {
+        tell_planned(rt, rest)
+    }
+}
+
 fn main(rt: HostRuntime) -> io::Result<()> {
     for line in rt.lines(rt.alloc()) {
         let line = line?;
-        if let Some(text) = line.strip_prefix("scenario ") {
-            tell_scenario(&rt, text.as_bytes())?;
-        } else if let Some(digits) = line.strip_prefix("capture ") {
-            let bytes = bytes_of(rt.alloc(), digits.as_bytes())?;
-            tell_capture(&rt, bytes.as_slice())?;
-        } else if let Some(inputs) = line.strip_prefix("plan ") {
-            let (digits, text) = inputs.split_once(' ').unwrap_or((inputs, ""));
-            let bytes = bytes_of(rt.alloc(), digits.as_bytes())?;
-            tell_plan(&rt, bytes.as_slice(), text.as_bytes())?;
+        if let Some((kind, rest)) = line.split_once(' ') {
+            tell(&rt, kind, rest)?;
         }
     }
     Ok(())

@@ -1,5 +1,5 @@
-//! Tests of what comes in and goes out: files and sinks, and captures as files. They show what no clause says: that the calls succeed, and what
-//! the system's files and writers do. The texts of scenarios and small captures are the rows of `input_rows`.
+//! Tests of the system's files and of writers that take little: what no clause says. Files and sinks in memory have clauses for all that they do, and
+//! runs over them, with calls that fail, are rows of `rows`; captures are rows of `input_rows`.
 #![tactic(auto)]
 
 #[cfg(test)]

@@ -1,2 +1,1 @@
-mod captures;
 mod outside;

@@ -1,8 +1,7 @@
-//! Files, sinks and a writer that takes little at a time.
+//! The system's files, and a writer that takes little at a time.
 
 use and_outside::{
-    Failed, Files, Gate, MemoryFiles, MemorySink, OpenGate, ReadAnswer, RealFiles, RealSink, Sink,
-    write_all,
+    Failed, Files, Gate, OpenGate, ReadAnswer, RealFiles, RealSink, Sink, write_all,
 };
 use std::io;
 use std::io::Write;
@@ -28,38 +27,6 @@ impl Write for &mut Narrow {
     fn flush(&mut self) -> io::Result<()> {
         Ok(())
     }
-}
-
-// Call 1 is told to fail. Two places and 12 bytes are enough for the first two contents.
-#[test]
-fn memory_files(rt: HostRuntime) -> Result<(), Fail> {
-    let alloc = rt.alloc();
-    let mut files = MemoryFiles::make(alloc, 2, 12, &[1])?;
-    files.hold("a", b"one");
-    assert_eq!(rt; files.read(alloc, "a", 3)?.as_slice(), b"one".as_slice());
-    assert_eq!(rt; files.read(alloc, "a", 3), Err(ReadAnswer::Failed));
-    assert_eq!(rt; files.read(alloc, "a", 2), Err(ReadAnswer::TooLong));
-    assert_eq!(rt; files.read(alloc, "b", 9), Err(ReadAnswer::Failed));
-    assert_eq!(rt; files.write("b", b"longer than is left"), Err(Failed));
-    assert_eq!(rt; files.write("a", b"another"), Ok(()));
-    assert_eq!(rt;
-        files.read(alloc, "a", 7)?.as_slice(),
-        b"another".as_slice()
-    );
-    assert_eq!(rt; files.write("b", b""), Err(Failed), "no place is left");
-    Ok(())
-}
-
-#[test]
-fn memory_sink(rt: HostRuntime) -> Result<(), Fail> {
-    let mut sink = MemorySink::make(rt.alloc(), 6, &[1])?;
-    assert_eq!(rt; sink.put(b"abc"), Ok(()));
-    assert_eq!(rt; sink.put(b"d"), Err(Failed));
-    assert_eq!(rt; sink.put(b"efgh"), Err(Failed));
-    assert_eq!(rt; sink.put(b"efg"), Ok(()));
-    assert_eq!(rt; sink.bytes(), b"abcefg".as_slice());
-    OpenGate.at(0, 0);
-    Ok(())
 }
 
 // The content is longer than one read of the system takes.
@@ -97,6 +64,7 @@ fn real_sink(rt: HostRuntime) {
     assert_eq!(rt; sink.put(b"abcdefg"), Ok(()));
     assert_eq!(rt; sink.put(b"hijk"), Err(Failed), "only three bytes are left");
     drop(sink);
+    OpenGate.at(0, 0);
     assert_eq!(rt; narrow.bytes, *b"abcdefghij");
 }
 

@@ -1,0 +1,5 @@
+pub mod Logged
+pub mod Readable
+pub mod Agreeing
+pub mod After
+pub mod Places

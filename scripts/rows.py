@@ -274,14 +274,14 @@ def refusals():
     row("scenario-that-is-not-there", "The scenario is read first.", None, one, said="read failed: scenario.json")
 
 
-# Items and settings that the system cannot run so far are refused alike, after all that the grammar refuses. These rows go with the refusal.
+# Items that the system cannot run so far are refused alike, after all that the grammar refuses. These rows go with the refusal.
 NOT_BUILT = "scenario: NotBuilt"
 
 
 def not_built():
     """What cannot be run yet, and what is refused before it."""
     row("tick-that-is-not-built", "The system has no clock yet.", base(TICK), capture(), said=NOT_BUILT)
-    row("gateways-that-are-not-built", "The system has one gateway so far.", '{"hosts":1,"gateways":2,"script":[]}', capture(), said=NOT_BUILT)
+    row("hold-that-is-not-built", "No node can be held back yet.", '{"hosts":1,"gateways":2,"script":[{"do":"hold","node":"h0","what":"install"}]}', capture(), said=NOT_BUILT)
     row("grammar-before-what-is-built", "An item that is out of range, after one that cannot be run yet.",
         '{"hosts":1,"gateways":1,"script":[{"do":"tick"},{"do":"add_net","net":0}]}', capture(), said="scenario: Range /script/1/net")
 

@@ -1,5 +1,5 @@
 #!/usr/bin/env python3
-"""Writes the rows of crates/wire_rows: frames and outer packets, and what is read and written of them, sums, tags, queues and batches.
+"""Writes the rows of crates/wire_rows: frames and outer packets, and what is read and written of them, and batches of operations.
 
 What a row must answer is worked out by formats.py and model.py, which share nothing with the program; the vectors below were worked out from the
 standards by hand, and are tested here.
@@ -129,19 +129,10 @@ def wraps():
     outer(changed(sealed, 50, sealed[50] ^ 1), "Checksum")
 
 
-# ---- sums, tags, queues, batches
+# ---- batches
 
 
-def small():
-    assert model.ones_sum(b"\xff\xff\0\x01") == 1
-    for data in (b"", b"\x41", b"\xff\xff\0\x01", b"\xff\xff", bytes(17), bytes(range(1, 256)), b"\xff" * 1001, b"\xff" * 70_000):
-        put(f"sum {data.hex()}", str(model.ones_sum(data)))
-    for tag, tags in ((3, range(16)), (0, range(16)), (15, range(16)), (7, [7] * 16), (7, [7, 8] * 8), (200, [200] + [0] * 15), (1, [0] * 16)):
-        put(f"tags {tag} {bytes(tags).hex()}", str(sum(1 << at for at, it in enumerate(tags) if it == tag)))
-    put(f"queue 1 2 {F1.hex()}", "in back:1 1 false out:0")
-    put(f"queue 3 3 {F1.hex()}", "in in in 3 false out:0 out:1 out:2")
-    put(f"queue 0 1 {F1.hex()}", "back:0 0 true")
-    put(f"queue 2 0 {F1.hex()}", "0 true")
+def batches():
     put("batch 0", "0")
     put("batch 3", "3")
 
@@ -149,7 +140,7 @@ def small():
 def main():
     frames()
     wraps()
-    small()
+    batches()
     where = sys.argv[1] if len(sys.argv) > 1 else "crates/wire_rows"
     with open(where + "/stdin", "w", encoding="utf-8") as lines:
         lines.writelines(row + "\n" for row, _ in rows)

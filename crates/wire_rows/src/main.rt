@@ -1,28 +1,24 @@
-//! A program to check frames, outer packets and what stands on them by: each line of its input asks for one thing, and it writes a line for each.
+//! A program to check frames and outer packets by: each line of its input asks for one thing, and it writes a line for each.
 //!
 //! - `frame DIGITS`: the frame's Ethernet source address, its tuple, the hash of its flow and the source port of its outer packets, or the name
 //!   of the first check that it fails.
 //! - `outer DIGITS`: what the headers of an outer packet say, or the name of the first check that it fails.
 //! - `wrap HOW FROM TO TTL VNI DIGITS`: the outer packet of a frame, `open`, `sealed`, or sealed `later` than it was wrapped. A node is a letter and
 //!   a number: `h1` a host, `g0` a gateway, `r0` a gateway's redirect address.
-//! - `queue CAPACITY COUNT DIGITS`: what a queue takes of so many parcels of a frame, and what it gives.
-//! - `sum DIGITS`: the one's complement sum. `tags TAG DIGITS`: which of sixteen tags are this one. `batch COUNT`: a batch of so many operations.
+//! - `batch COUNT`: a batch of so many operations.
 //!
 //! Bytes are hexadecimal digits. Its lines are written by `scripts/wire_rows.py`. It promises nothing: the stored run shows what it calls.
 #![tactic(auto)]
 
 mod outers;
-mod queues;
 mod words;
 
 use crate::outers::{tell_outer, tell_wrapped};
-use crate::queues::{tell_batch, tell_queue};
 use crate::words::{bytes_of, next_word, number};
-use and_lanes::{ones_sum, tags_equal};
 use and_parcel::entropy_port;
-use and_policy::{Fields, Skip, flow_hash};
+use and_policy::{Batch, Entry, Fields, Op, Skip, flow_hash};
 use and_wire::read_frame;
-use anyhow::Result;
+use anyhow::{Result, bail};
 
 fn tell_fields(rt: &HostRuntime, fields: &Fields) -> Result<()> {
     let tuple = &fields.tuple;
@@ -59,22 +55,17 @@ fn tell_frame(rt: &HostRuntime, digits: &str) -> Result<()> {
     }
 }
 
-fn tell_sum(rt: &HostRuntime, digits: &str) -> Result<()> {
-    let bytes = bytes_of(rt.alloc(), digits)?;
-    let sum = ones_sum(bytes.as_slice());
-    println!(rt; "{sum}")?;
-    Ok(())
-}
-
-fn tell_tags(rt: &HostRuntime, words: &str) -> Result<()> {
-    let (tag, digits) = next_word(words);
-    let bytes = bytes_of(rt.alloc(), digits)?;
-    let mut tags = [0u8; 16];
-    for (place, byte) in tags.iter_mut().zip(bytes.as_slice()) {
-        *place = *byte;
+/// How many operations a batch of so many has.
+fn tell_batch(rt: &HostRuntime, count: &str) -> Result<()> {
+    let mut ops = Vec::new(rt.alloc());
+    for _ in 0..number(count) {
+        ops.push(Op::Entry(Entry::Tick))?;
     }
-    let found = tags_equal(&tags, (number(tag) % 256) as u8);
-    println!(rt; "{found}")?;
+    let Ok(batch) = Batch::make(rt.alloc(), ops.as_slice()) else {
+        bail!("no memory");
+    };
+    let len = batch.ops().len();
+    println!(rt; "{len}")?;
     Ok(())
 }
 
@@ -87,12 +78,6 @@ fn tell(rt: &HostRuntime, line: &str) -> Result<()> {
         tell_outer(rt, rest)
     } else if kind == "wrap" {
         tell_wrapped(rt, rest)
-    } else if kind == "queue" {
-        tell_queue(rt, rest)
-    } else if kind == "sum" {
-        tell_sum(rt, rest)
-    } else if kind == "tags" {
-        tell_tags(rt, rest)
     } else {
         tell_batch(rt, rest)
     }

@@ -1,0 +1,2 @@
+pub mod Hovers
+pub mod Inside

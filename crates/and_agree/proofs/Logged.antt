@@ -47,7 +47,7 @@ second_out true b f g rest e = absurd (cc)
 second_out false true f g rest e = absurd (cc)
 second_out false false f g rest e = e
 
-anywhere : (hosts : ℕ) (k : List Entry) (e : Entry) → fits (Some hosts) k e ≡ None → fits None k e ≡ None
+pub anywhere : (hosts : ℕ) (k : List Entry) (e : Entry) → fits (Some hosts) k e ≡ None → fits None k e ≡ None
 anywhere hosts k (entries.AddVm vm net mac ip host) f =
     third_out (not (has_net k net)) (list_any (λ v. v.number == vm) (added k)) (no_host (Some hosts) host) NoNet VmTaken NoHost
     (first_failing (drop 3 (entry_checks None k (entries.AddVm vm net mac ip host)))) f

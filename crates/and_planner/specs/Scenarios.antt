@@ -20,7 +20,7 @@ pub record IsScenario (s : Scenario) : Type 0 where
   pub few : length s.items ≤ 65536
   pub items : All (IsItem (length s.names)) s.items
 
--- What the system runs so far, one line a kind: networks, VMs, rules that seal nothing, routes, waits and sends. A kind that is built adds its line here,
+-- What the system runs so far, one line a kind: networks, VMs, rules that seal nothing, routes, deletions of both, waits and sends. A kind that is built adds its line here,
 -- and the last takes the predicate away
 abbrev pub is_built_item : Item → Bool
 is_built_item (items.Entry (entries.AddNet net)) = true

@@ -1,42 +1,22 @@
 -- How an index follows one entry more, and what its tables say.
-use Rattle.std.proofs.Common.{◌≡◌, ℕ, ◌-◌, ◌<◌, ◌≤◌, ◌^◌, Bool, true, false, List, [], ◌∷◌, ◌++◌, length, map, refl, ap, sym, ◌∙◌, subst, arith, Option, Some, None}
-use Rattle.std.specs.Prelude.{if◌then◌else◌}
+use Rattle.std.proofs.Common.{◌≡◌, ℕ, ◌-◌, ◌<◌, ◌≤◌, ◌^◌, List, [], ◌∷◌, ◌++◌, length, map, refl, ap, sym, ◌∙◌, subst, arith, Some, None}
 use Rattle.std.specs.List.{All}
 use Rattle.std.proofs.lemmas.List.{length-map, map-append}
 use Rattle.std.proofs.lemmas.List.Elements.{All-push}
 use Rattle.and_policy.specs.declared.entry.Entry.{Entry}
-use Rattle.and_policy.specs.declared.entry.Entry.TheVariants as entry_kinds
 use Rattle.and_policy.specs.declared.entry.Op.{Op}
 use Rattle.and_policy.specs.declared.entry.Op.TheVariants as ops
 use Rattle.and_policy.specs.Fitting.{fits, IsLog}
 use Rattle.and_policy.specs.Programmes.{entries}
 use Rattle.and_policy.proofs.Logging.{log-push}
 use Rattle.and_events.specs.Sound.{IsBuiltEntry}
+use Rattle.and_agree.proofs.Logged.{anywhere}
 use Rattle.and_replay.specs.declared.index.Index.{Index}
 use Rattle.and_replay.specs.Indexes.{IsIndex, ops_of}
 
 pub entries_of : (k : List Entry) → entries (ops_of k) ≡ k
 entries_of [] = refl
 entries_of (e ∷ k) = ap (λ ks. e ∷ ks) (entries_of k)
-
--- ---- an entry that fits with a number of hosts fits without one
-
-third_out : {F : Type 0} (a b c : Bool) (f g h : F) (rest : Option F) → (if a then Some f else (if b then Some g else (if c then Some h else rest))) ≡ None
-    → (if a then Some f else (if b then Some g else rest)) ≡ None
-third_out true b c f g h rest e = absurd (cc)
-third_out false true c f g h rest e = absurd (cc)
-third_out false false true f g h rest e = absurd (cc)
-third_out false false false f g h rest e = e
-
-second_out : {F : Type 0} (a b : Bool) (f g : F) (rest : Option F) → (if a then Some f else (if b then Some g else rest)) ≡ None → (if a then Some f else rest) ≡ None
-second_out true b f g rest e = absurd (cc)
-second_out false true f g rest e = absurd (cc)
-second_out false false f g rest e = e
-
-anywhere : (hosts : ℕ) (k : List Entry) (e : Entry) → fits (Some hosts) k e ≡ None → fits None k e ≡ None
-anywhere hosts k (entry_kinds.AddVm vm net mac ip host) f = third_out _ _ _ _ _ _ _ f
-anywhere hosts k (entry_kinds.Place vm host) f = second_out _ _ _ _ _ f
-anywhere hosts k e f = f
 
 -- ---- one entry more
 

@@ -14,7 +14,6 @@ pub fn plans_are_sound()
 {}
 
 /// The plan of a scenario that the system can run so far is built.
-#[tactic(auto, using(crate::proofs::Building::planned_is_built))]
 pub fn plans_are_built()
     ensures { (scenario : Scenario) (capture : Capture) → IsBuiltScenario scenario → IsBuilt (planned scenario capture) }
 {}

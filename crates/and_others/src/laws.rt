@@ -1,0 +1,23 @@
+//! The laws of what lasts.
+ghost use Rattle.std.specs.Prelude.{◌≡◌, List, ◌∷◌, Some};
+ghost use Rattle.and_events.specs.declared.event.Actor.{Actor};
+ghost use Rattle.and_events.specs.declared.event.Event.{Event};
+ghost use Rattle.and_events.specs.declared.event.Held.{Held};
+ghost use Rattle.and_events.specs.declared.plan.Plan.{Plan};
+ghost use Rattle.and_events.specs.Flow.{hand_at};
+ghost use Rattle.and_events.specs.Places.{hand_place, actor_of, IsActor, Handles};
+ghost use Rattle.and_events.specs.Run.{Run};
+ghost use Rattle.and_events.specs.Sound.{IsSound};
+ghost use Rattle.and_events.specs.State.{state, carried_at};
+
+/// What an actor has in hand, and what that packet carries, is as it was after an event of another.
+#[tactic(auto, using(crate::proofs::Lasting::hand_lasts, crate::proofs::Lasting::carried_lasts))]
+pub fn hands_last()
+    ensures hand { (plan : Plan) (h : List Event) (e : Event) (b : Actor) → IsSound plan → Run plan (e ∷ h) → IsActor plan.settings b → Handles b
+        → (actor_of e ≡ b → ⊥)
+        → hand_at (state plan (e ∷ h)).flow.hands (hand_place plan.settings b) ≡ hand_at (state plan h).flow.hands (hand_place plan.settings b) }
+    ensures carried { (plan : Plan) (h : List Event) (e : Event) (b : Actor) (x : Held) → IsSound plan → Run plan (e ∷ h)
+        → IsActor plan.settings b → Handles b → (actor_of e ≡ b → ⊥)
+        → hand_at (state plan h).flow.hands (hand_place plan.settings b) ≡ Some x
+        → carried_at (state plan (e ∷ h)) x.packet ≡ carried_at (state plan h) x.packet }
+{}

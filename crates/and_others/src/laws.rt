@@ -1,14 +1,15 @@
 //! The laws of what lasts.
-ghost use Rattle.std.specs.Prelude.{◌≡◌, List, ◌∷◌, Some};
+ghost use Rattle.std.specs.Prelude.{◌≡◌, ℕ, ◌≤◌, List, ◌∷◌, Some, length, take};
 ghost use Rattle.and_events.specs.declared.event.Actor.{Actor};
 ghost use Rattle.and_events.specs.declared.event.Event.{Event};
 ghost use Rattle.and_events.specs.declared.event.Held.{Held};
+ghost use Rattle.and_events.specs.declared.event.Node.{Node};
 ghost use Rattle.and_events.specs.declared.plan.Plan.{Plan};
 ghost use Rattle.and_events.specs.Flow.{hand_at};
-ghost use Rattle.and_events.specs.Places.{hand_place, actor_of, IsActor, Handles};
+ghost use Rattle.and_events.specs.Places.{hand_place, actor_of, IsActor, IsNode, Handles};
 ghost use Rattle.and_events.specs.Run.{Run};
 ghost use Rattle.and_events.specs.Sound.{IsSound};
-ghost use Rattle.and_events.specs.State.{state, carried_at};
+ghost use Rattle.and_events.specs.State.{state, carried_at, programme_of};
 
 /// What an actor has in hand, and what that packet carries, is as it was after an event of another.
 #[tactic(auto, using(crate::proofs::Lasting::hand_lasts, crate::proofs::Lasting::carried_lasts))]
@@ -20,4 +21,12 @@ pub fn hands_last()
         → IsActor plan.settings b → Handles b → (actor_of e ≡ b → ⊥)
         → hand_at (state plan h).flow.hands (hand_place plan.settings b) ≡ Some x
         → carried_at (state plan (e ∷ h)) x.packet ≡ carried_at (state plan h) x.packet }
+{}
+
+/// What was taken from the front of a node's programme is still its front after one more event.
+#[tactic(auto, using(crate::proofs::Growing::taken_lasts))]
+pub fn programmes_grow_at_their_ends()
+    ensures { (plan : Plan) (h : List Event) (e : Event) (node : Node) → IsSound plan → Run plan (e ∷ h) → IsNode plan.settings node
+        → (n : ℕ) → n ≤ length (programme_of plan (state plan h) node)
+        → take n (programme_of plan (state plan (e ∷ h)) node) ≡ take n (programme_of plan (state plan h) node) }
 {}

@@ -1,2 +1,4 @@
 pub mod Lasting
 pub mod Growing
+pub mod Caching
+pub mod Once

@@ -1,15 +1,19 @@
 //! The laws of what lasts.
 ghost use Rattle.std.specs.Prelude.{◌≡◌, ℕ, ◌≤◌, List, ◌∷◌, Some, length, take};
 ghost use Rattle.and_events.specs.declared.event.Actor.{Actor};
+ghost use Rattle.and_events.specs.declared.event.Actor.TheVariants.{Worker};
 ghost use Rattle.and_events.specs.declared.event.Event.{Event};
 ghost use Rattle.and_events.specs.declared.event.Held.{Held};
 ghost use Rattle.and_events.specs.declared.event.Node.{Node};
 ghost use Rattle.and_events.specs.declared.plan.Plan.{Plan};
+ghost use Rattle.and_events.specs.Complete.{IsComplete};
 ghost use Rattle.and_events.specs.Flow.{hand_at};
+ghost use Rattle.and_events.specs.Ordered.{IsInPlainOrder};
 ghost use Rattle.and_events.specs.Places.{hand_place, actor_of, IsActor, IsNode, Handles};
 ghost use Rattle.and_events.specs.Run.{Run};
 ghost use Rattle.and_events.specs.Sound.{IsSound};
 ghost use Rattle.and_events.specs.State.{state, carried_at, programme_of};
+ghost use Rattle.and_others.specs.Ways.{cache_after, Ways};
 
 /// What an actor has in hand, and what that packet carries, is as it was after an event of another.
 #[tactic(auto, using(crate::proofs::Lasting::hand_lasts, crate::proofs::Lasting::carried_lasts))]
@@ -29,4 +33,18 @@ pub fn programmes_grow_at_their_ends()
     ensures { (plan : Plan) (h : List Event) (e : Event) (node : Node) → IsSound plan → Run plan (e ∷ h) → IsNode plan.settings node
         → (n : ℕ) → n ≤ length (programme_of plan (state plan h) node)
         → take n (programme_of plan (state plan (e ∷ h)) node) ≡ take n (programme_of plan (state plan h) node) }
+{}
+
+/// A host worker's flow cache is as it was after an event of another actor.
+#[tactic(auto, using(crate::proofs::Caching::cache_lasts))]
+pub fn caches_last()
+    ensures { (plan : Plan) (h : List Event) (e : Event) (host index : ℕ) → (actor_of e ≡ Worker host index → ⊥)
+        → cache_after plan (e ∷ h) host index ≡ cache_after plan h host index }
+{}
+
+/// A sound plan has at most one complete run in the plain order in which each host worker goes the way that its cache gives.
+#[tactic(auto, using(crate::proofs::Once::one_way_run))]
+pub fn runs_by_caches_are_one()
+    ensures { (plan : Plan) (h k : List Event) → IsSound plan → Run plan h → IsComplete plan h → IsInPlainOrder plan h → Ways plan h
+        → Run plan k → IsComplete plan k → IsInPlainOrder plan k → Ways plan k → k ≡ h }
 {}

@@ -3,6 +3,7 @@ ghost use Rattle.std.specs.Prelude.{◌≡◌, ℕ, ◌≤◌, List, ◌∷◌, 
 ghost use Rattle.and_events.specs.declared.event.Actor.{Actor};
 ghost use Rattle.and_events.specs.declared.event.Actor.TheVariants.{Worker};
 ghost use Rattle.and_events.specs.declared.event.Event.{Event};
+ghost use Rattle.and_events.specs.declared.event.Event.TheVariants.{Announce, Installed};
 ghost use Rattle.and_events.specs.declared.event.Held.{Held};
 ghost use Rattle.and_events.specs.declared.event.Node.{Node};
 ghost use Rattle.and_events.specs.declared.plan.Plan.{Plan};
@@ -12,7 +13,7 @@ ghost use Rattle.and_events.specs.Ordered.{IsInPlainOrder};
 ghost use Rattle.and_events.specs.Places.{hand_place, actor_of, IsActor, IsNode, Handles};
 ghost use Rattle.and_events.specs.Run.{Run};
 ghost use Rattle.and_events.specs.Sound.{IsSound};
-ghost use Rattle.and_events.specs.State.{state, carried_at, programme_of};
+ghost use Rattle.and_events.specs.State.{state, carried_at, programme_of, announced_of, installed_of};
 ghost use Rattle.and_others.specs.Ways.{cache_after, Ways};
 
 /// What an actor has in hand, and what that packet carries, is as it was after an event of another.
@@ -33,6 +34,17 @@ pub fn programmes_grow_at_their_ends()
     ensures { (plan : Plan) (h : List Event) (e : Event) (node : Node) → IsSound plan → Run plan (e ∷ h) → IsNode plan.settings node
         → (n : ℕ) → n ≤ length (programme_of plan (state plan h) node)
         → take n (programme_of plan (state plan (e ∷ h)) node) ≡ take n (programme_of plan (state plan h) node) }
+{}
+
+/// What is announced at a node is changed by an announcement there alone, and what is installed by an install there alone.
+#[tactic(auto, using(crate::proofs::Growing::announced_lasts, crate::proofs::Growing::installed_lasts))]
+pub fn numbers_last()
+    ensures announced { (plan : Plan) (h : List Event) (e : Event) (node : Node) → IsSound plan → Run plan (e ∷ h)
+        → IsNode plan.settings node → ((upto : ℕ) → e ≡ Announce node upto → ⊥)
+        → announced_of plan (state plan (e ∷ h)) node ≡ announced_of plan (state plan h) node }
+    ensures installed { (plan : Plan) (h : List Event) (e : Event) (node : Node) → IsSound plan → Run plan (e ∷ h)
+        → IsNode plan.settings node → ((upto : ℕ) → e ≡ Installed node upto → ⊥)
+        → installed_of plan (state plan (e ∷ h)) node ≡ installed_of plan (state plan h) node }
 {}
 
 /// A host worker's flow cache is as it was after an event of another actor.

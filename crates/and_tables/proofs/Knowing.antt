@@ -1,7 +1,7 @@
--- What is known after one operation more.
+-- The places of touches after one operation more.
 use Rattle.std.proofs.Common.{◌≡◌, ℕ, ◌+◌, Bool, true, false, ◌&&◌, ◌||◌, not, List, [], ◌∷◌, ◌++◌, length, Option, None, refl, ap, sym, ◌∙◌, append-nil}
 use Rattle.std.specs.Prelude.{if◌then◌else◌, ◌==◌}
-use Rattle.std.specs.List.{list_any, filter}
+use Rattle.std.specs.List.{list_any}
 use Rattle.and_policy.specs.declared.entry.Entry.{Entry}
 use Rattle.and_policy.specs.declared.entry.Entry.TheVariants.{AddNet, AddVm, RemoveVm, Place, AddRule, DelRule, AddRoute, DelRoute, Tick}
 use Rattle.and_policy.specs.declared.entry.Op.{Op}
@@ -10,12 +10,12 @@ use Rattle.and_policy.specs.declared.entry.Order.{Order}
 use Rattle.and_policy.specs.Fitting.{IsLog}
 use Rattle.and_policy.specs.Logs.{now, added}
 use Rattle.and_policy.specs.Programmes.{entries, is_entry_of, is_order_of, is_net, net_of_vm, living}
-use Rattle.and_tables.specs.Lasts.{Agree, stays, fresh}
-use Rattle.and_tables.specs.Steps.{named, own, stays_by, fresh_by, ends_by}
+use Rattle.and_tables.specs.Lasts.{stays}
+use Rattle.and_tables.specs.Steps.{named, own, stays_by, ends_by}
 use Rattle.and_tables.specs.Kept.{Knows}
 use Rattle.and_tables.proofs.Known.{agree, entries_more, later_now, added_more}
 use Rattle.and_policy.proofs.Logging.{log-before}
-use Rattle.and_tables.proofs.Living.{living_more, touched_more}
+use Rattle.and_tables.proofs.Living.{touched_more}
 
 -- ---- the network that the operation names
 
@@ -45,18 +45,10 @@ own_is home (ops.Entry e) net = or_false (is_net (named home (ops.Entry e)) net)
     or_false true = refl
     or_false false = refl
 
--- ---- the live orders and the touches
+-- ---- the touches
 
 stays_is : (k2 : List Entry) (name : Option ℕ) (op : Op) (order : Order) → ((net : ℕ) → is_entry_of k2 net op ≡ is_net name net) → stays k2 op order ≡ stays_by name op (now k2) order
 stays_is k2 name op order h = rw (h order.net, h order.to_net) refl
-
-fresh_is : (k2 : List Entry) (op : Op) → fresh k2 op ≡ fresh_by (now k2) op
-fresh_is k2 (ops.Entry e) = refl
-fresh_is k2 (ops.Offload order) = refl
-
-filter_alike : (f g : Order → Bool) (xs : List Order) → ((x : Order) → f x ≡ g x) → filter f xs ≡ filter g xs
-filter_alike f g [] h = refl
-filter_alike f g (x ∷ xs) h = rw (h x, filter_alike f g xs h) refl
 
 ends_alike : (f g : Order → Bool) (net : ℕ) (xs : List Order) → ((x : Order) → f x ≡ g x) → list_any (λ o. (o.net == net) && not (f o)) xs ≡ list_any (λ o. (o.net == net) && not (g o)) xs
 ends_alike f g net [] h = refl
@@ -66,36 +58,22 @@ both : (a b : Bool) (x y : ℕ) → (if a then x else (if b then x else y)) ≡ 
 both true b x y = refl
 both false b x y = refl
 
-pub knows_more : (p : List Op) (op : Op) (name : Option ℕ) (live live2 : List Order) (t t2 : ℕ → ℕ) (ticks2 : ℕ) → Knows p live t
+pub knows_more : (p : List Op) (op : Op) (name : Option ℕ) (t t2 : ℕ → ℕ) (ticks2 : ℕ) → Knows p t
     → ticks2 ≡ now (entries (p ++ op ∷ []))
     → (IsLog None (entries p) → name ≡ named (net_of_vm (entries p)) op)
-    → live2 ≡ filter (stays_by name op ticks2) live ++ fresh_by ticks2 op
-    → ((net : ℕ) → t2 net ≡ (if is_net (own name op) net then length p + 1 else (if ends_by name op ticks2 live net then length p + 1 else t net)))
-    → Knows (p ++ op ∷ []) live2 t2
-knows_more p op name live live2 t t2 ticks2 k ticks_are name_is live_is t_is =
+    → (IsLog None (entries p) → (net : ℕ) → t2 net ≡ (if is_net (own name op) net then length p + 1 else (if ends_by name op ticks2 (living (entries p) p) net then length p + 1 else t net)))
+    → Knows (p ++ op ∷ []) t2
+knows_more p op name t t2 ticks2 k ticks_are name_is t_is log net =
     let named_by : (net : ℕ) → is_entry_of (entries (p ++ op ∷ [])) net op ≡ is_net (named (net_of_vm (entries p)) op) net = λ net. named_is p (net_of_vm (entries p)) op net (λ vm. refl) in
     let stay : (o : Order) → stays (entries (p ++ op ∷ [])) op o ≡ stays_by (named (net_of_vm (entries p)) op) op ticks2 o =
     λ o. stays_is (entries (p ++ op ∷ [])) (named (net_of_vm (entries p)) op) op o named_by ∙ ap (λ n. stays_by (named (net_of_vm (entries p)) op) op n o) (sym ticks_are) in
-    let agrees : IsLog None (entries (p ++ op ∷ [])) → Agree (entries p) (entries (p ++ op ∷ [])) p = λ log. agree None p (op ∷ []) (log-before p op log) in
-    record {
-      lives = λ log.
-          live_is ∙ rw (
-            name_is (log-before p op log),
-            k.lives (log-before p op log),
-            living_more (entries p) (entries (p ++ op ∷ [])) p op (agrees log) (later_now p (op ∷ [])),
-            filter_alike (stays (entries (p ++ op ∷ [])) op) (stays_by (named (net_of_vm (entries p)) op) op ticks2) (living (entries p) p) stay,
-            fresh_is (entries (p ++ op ∷ [])) op,
-            ticks_are,
-          ) refl;
-      touches = λ log net.
-          t_is net ∙ both (is_net (own name op) net) (ends_by name op ticks2 live net) (length p + 1) (t net)
-          ∙ rw (
-            name_is (log-before p op log),
-            touched_more p op net (agrees log) (later_now p (op ∷ [])),
-            named_by net,
-            own_is (net_of_vm (entries p)) op net,
-            k.lives (log-before p op log),
-            k.touches (log-before p op log) net,
-            ends_alike (stays (entries (p ++ op ∷ [])) op) (stays_by (named (net_of_vm (entries p)) op) op ticks2) net (living (entries p) p) stay,
-          ) refl;
-    }
+    let before : IsLog None (entries p) = log-before p op log in
+    t_is before net ∙ both (is_net (own name op) net) (ends_by name op ticks2 (living (entries p) p) net) (length p + 1) (t net)
+    ∙ rw (
+      name_is before,
+      touched_more p op net (agree None p (op ∷ []) before) (later_now p (op ∷ [])),
+      named_by net,
+      own_is (net_of_vm (entries p)) op net,
+      k before net,
+      ends_alike (stays (entries (p ++ op ∷ [])) op) (stays_by (named (net_of_vm (entries p)) op) op ticks2) net (living (entries p) p) stay,
+    ) refl

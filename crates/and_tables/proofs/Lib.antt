@@ -10,4 +10,6 @@ pub mod Ruling
 pub mod Cases
 pub mod Keeping
 pub mod Ordering
-pub mod Quiet
+pub mod Alive
+pub mod Chaining
+pub mod Walking

@@ -10,7 +10,8 @@ use Rattle.and_policy.specs.Fitting.{IsLog}
 use Rattle.and_policy.specs.Logs.{now}
 use Rattle.and_policy.specs.Programmes.{entries, orders_for, lives, live}
 use Rattle.and_tables.specs.Lasts.{IsLast, alive, order_by}
-use Rattle.and_tables.specs.Kept.{Keeps, the_order, lives_at, live_by, live_at}
+use Rattle.and_tables.specs.Kept.{Keeps}
+use Rattle.and_tables.specs.Orders.{the_order, lives_at, live_by, live_at}
 use Rattle.and_tables.proofs.Lasts as lasts
 use Rattle.and_tables.proofs.Lasts.{lives_by, matches_at}
 
@@ -23,7 +24,7 @@ not_or false true c = refl
 not_or false false c = refl
 
 -- the order at its last place lives where no entry of its networks stands after it and its time is not over
-lives_is : (p : List Op) (ticks : ℕ) (entered : ℕ → ℕ) (ordered : ℕ → ℕ → ℕ) (order : Order) → Keeps p ticks entered ordered → IsLog None (entries p)
+pub lives_is : (p : List Op) (ticks : ℕ) (entered : ℕ → ℕ) (ordered : ℕ → ℕ → ℕ) (order : Order) → Keeps p ticks entered ordered → IsLog None (entries p)
     → lives (entries p) order (drop (ordered order.net order.ip) p) ≡ lives_at ticks entered (ordered order.net order.ip) order
 lives_is p ticks entered ordered order k log =
     let place = ordered order.net order.ip in

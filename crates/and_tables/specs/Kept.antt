@@ -1,39 +1,18 @@
 -- What the tables keep.
-use Rattle.std.specs.Prelude.{◌≡◌, ◌<◌, ◌≤◌, ◌^◌, length, ℕ, zero, suc, ◌&&◌, Bool, nat_le, nat_lt, if◌then◌else◌, List, Option, Some, None, slice_get}
+use Rattle.std.specs.Prelude.{◌≡◌, ◌<◌, ◌≤◌, ◌^◌, length, ℕ, List, None}
 use Rattle.and_policy.specs.declared.entry.Op.{Op}
-use Rattle.and_policy.specs.declared.entry.Op.TheVariants as ops
 use Rattle.and_policy.specs.declared.entry.Order.{Order}
 use Rattle.and_policy.specs.Fitting.{IsLog}
-use Rattle.and_policy.specs.Programmes.{entries, is_entry_of, orders_for, living, touched}
+use Rattle.and_policy.specs.Programmes.{entries, is_entry_of, orders_for, touched}
 use Rattle.and_policy.specs.Logs.{now}
-use Rattle.and_tables.specs.declared.host.HostTables.TheInside.{Inside}
-use Rattle.and_tables.specs.Hints.{AreMarked}
-use Rattle.and_tables.specs.Lasts.{IsLast}
 use Rattle.and_policy.specs.Registers.{IsRegister}
+use Rattle.and_tables.specs.declared.host.HostTables.TheInside.{Inside}
+use Rattle.and_tables.specs.declared.index.Index.{Index}
 use Rattle.and_tables.specs.Books.{IsRulebook}
+use Rattle.and_tables.specs.Chains.{IsChain}
+use Rattle.and_tables.specs.Lasts.{IsLast}
 use Rattle.and_tables.specs.Numbers.{at, at_pair}
-use Rattle.and_tables.specs.Placing.{ArePlaced, IsSoon, orders_in}
-
-abbrev pub the_order : Option Op → Option Order
-the_order (Some (ops.Offload order)) = Some order
-the_order (Some (ops.Entry entry)) = None
-the_order None = None
-
--- the order at the place, from 1
-abbrev pub order_at : List Op → ℕ → Option Order
-order_at p zero = None
-order_at p (suc place) = the_order (slice_get p place)
-
-abbrev pub lives_at : ℕ → (ℕ → ℕ) → ℕ → Order → Bool
-lives_at ticks entered place order = nat_le (entered order.net) place && nat_le (entered order.to_net) place && nat_lt ticks order.until
-
-abbrev pub live_by : ℕ → (ℕ → ℕ) → ℕ → Option Order → Option Order
-live_by ticks entered place None = None
-live_by ticks entered place (Some order) = if lives_at ticks entered place order then Some order else None
-
--- the order at the place, where by the kept places it lives
-abbrev pub live_at : List Op → ℕ → (ℕ → ℕ) → ℕ → Option Order
-live_at p ticks entered place = live_by ticks entered place (order_at p place)
+use Rattle.and_tables.specs.Orders.{AreTouched}
 
 -- over plain variables: the operations, the ticks, the place of each network's last entry, and of each last order
 pub record Keeps (p : List Op) (ticks : ℕ) (entered : ℕ → ℕ) (ordered : ℕ → ℕ → ℕ) : Type 0 where
@@ -41,19 +20,22 @@ pub record Keeps (p : List Op) (ticks : ℕ) (entered : ℕ → ℕ) (ordered : 
   pub orders : (net ip : ℕ) → IsLast (orders_for net ip) p (ordered net ip)
   pub networks : IsLog None (entries p) → (net : ℕ) → IsLast (is_entry_of (entries p) net) p (entered net)
 
--- the live orders in their order, and the place of the last touch of each network
-pub record Knows (p : List Op) (live : List Order) (last_touch : ℕ → ℕ) : Type 0 where
-  pub lives : IsLog None (entries p) → live ≡ living (entries p) p
-  pub touches : IsLog None (entries p) → (net : ℕ) → last_touch net ≡ touched p (length p) net
+-- the orders are chained by their destination networks and by their ends, and the source network of each was touched
+pub record AreChained (p : List Op) (x : Index) : Type 0 where
+  pub into : IsChain (λ (o : Order). o.to_net) p x.into
+  pub until : IsChain (λ (o : Order). o.until) p x.until
+  pub touched : AreTouched p (at x.touched)
+
+-- the place of the last touch of each network
+abbrev pub Knows : List Op → (ℕ → ℕ) → Type 0
+Knows p last_touch = IsLog None (entries p) → (net : ℕ) → last_touch net ≡ touched p (length p) net
 
 pub record IsKept (t : Inside) : Type 0 where
   pub gated : 0 < t.gateways
   pub short : length t.ops.items < 2 ^ 32
   pub few : t.ticks ≤ length t.ops.items
   pub keeps : Keeps t.ops.items t.ticks (at t.index.entered) (at_pair t.index.ordered)
-  pub placed : ArePlaced (length t.ops.items) t.live.items
-  pub marked : AreMarked (at t.index.marks) (orders_in (at_pair t.index.ordered) t.live.items)
-  pub soon : IsSoon t.index.soonest t.live.items
-  pub knows : Knows t.ops.items (orders_in (at_pair t.index.ordered) t.live.items) (at t.index.touched)
+  pub chained : AreChained t.ops.items t.index
+  pub knows : Knows t.ops.items (at t.index.touched)
   pub register : IsLog None (entries t.ops.items) → IsRegister t.register (entries t.ops.items)
   pub rules : IsLog None (entries t.ops.items) → IsRulebook t.rules (entries t.ops.items)

@@ -5,5 +5,5 @@ pub mod Steps
 pub mod Books
 pub mod Kept
 pub mod Indexes
-pub mod Hints
-pub mod Placing
+pub mod Orders
+pub mod Chains

@@ -1,5 +1,5 @@
 -- One operation, by the network that it names.
-use Rattle.std.specs.Prelude.{ℕ, ◌==◌, ◌&&◌, ◌||◌, not, Bool, nat_lt, if◌then◌else◌, List, [], ◌∷◌, Option, Some, None}
+use Rattle.std.specs.Prelude.{ℕ, ◌==◌, ◌&&◌, ◌||◌, not, Bool, nat_lt, List, Option, Some, None}
 use Rattle.std.specs.List.{list_any}
 use Rattle.and_policy.specs.declared.entry.Entry.TheVariants.{AddNet, AddVm, RemoveVm, Place, AddRule, DelRule, AddRoute, DelRoute, Tick}
 use Rattle.and_policy.specs.declared.entry.Op.{Op}
@@ -33,10 +33,6 @@ own name (ops.Entry entry) = name
 abbrev pub stays_by : Option ℕ → Op → ℕ → Order → Bool
 stays_by name op ticks order =
     not (is_net name order.net || is_net name order.to_net || orders_for order.net order.ip op) && nat_lt ticks order.until
-
-abbrev pub fresh_by : ℕ → Op → List Order
-fresh_by ticks (ops.Entry entry) = []
-fresh_by ticks (ops.Offload order) = if nat_lt ticks order.until then order ∷ [] else []
 
 abbrev pub is_ended : Option ℕ → Op → ℕ → ℕ → Order → Bool
 is_ended name op ticks net order = (order.net == net) && not (stays_by name op ticks order)

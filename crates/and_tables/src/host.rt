@@ -1,6 +1,4 @@
 //! The tables of a host.
-ghost use Rattle.and_tables.specs.Kept as kept;
-ghost use Rattle.and_tables.specs.Numbers.{at};
 ghost use Rattle.std.specs.Prelude.{◌≡◌, ◌<◌, ◌++◌, ◌∷◌, [], None, List, length, option_map, OnOk, OnErr};
 ghost use Rattle.std.specs.List.Sorted.{IsSortedBy};
 ghost use Rattle.and_policy.specs.declared.entry.Entry.{Entry};
@@ -15,12 +13,11 @@ ghost use Rattle.and_policy.specs.Registers.{IsRegister, HasRoom};
 ghost use Rattle.and_policy.specs.Sorting.{sorted};
 ghost use Rattle.and_tables.specs.Books.{IsRulebook};
 
-use crate::hints::{end_where, soonest_after};
 use crate::index::Index;
 use crate::maps::{last, last_of};
-use crate::placed::Placed;
+use crate::orders::live_at;
 use crate::rulebook::Rulebook;
-use crate::steps::{begin_order, named, ticks_of};
+use crate::steps::{named, ticks_of};
 use and_policy::{NoMemory, Op, Order, Register, Rule, Tables};
 use std::alloc::Global;
 use std::collections::HashMap;
@@ -41,8 +38,6 @@ pub struct HostTables {
     ticks: u32,
     /// Places by keys.
     index: Index,
-    /// The live orders, the oldest first, and among them some that a later order has ended: those are not the last of their network and address.
-    live: Vec<Placed>,
     /// The VMs.
     register: Register,
     /// The live rules.
@@ -58,36 +53,6 @@ impl Model for HostTables {
     ghost view = { λ t. record { host = t.host; gateways = t.gateways; ops = t.ops.items } };
 
     ghost invariant = { IsKept };
-}
-
-// The order that is the operation at this place.
-fn order_at(ops: &[Op], place: u32) -> Option<Order>
-    ensures { result ≡ kept.order_at ops.now place }
-{
-    if place == 0 {
-        return None;
-    }
-    match ops.get(place as usize - 1) {
-        Some(Op::Offload(order)) => Some(*order),
-        _ => None,
-    }
-}
-
-// Whether the order at this place lives, at this many ticks.
-fn lives(ticks: u32, entered: &HashMap<u32, u32>, place: u32, order: &Order) -> bool
-    ensures { result ≡ kept.lives_at ticks (at entered.now) place order.now }
-{
-    place >= last(entered, order.net) && place >= last(entered, order.to_net) && ticks < order.until
-}
-
-// The order at this place, where it lives.
-fn live_at(ops: &[Op], ticks: u32, entered: &HashMap<u32, u32>, place: u32) -> Option<Order>
-    ensures { result ≡ kept.live_at ops.now ticks (at entered.now) place }
-{
-    match order_at(ops, place) {
-        Some(order) if lives(ticks, entered, place, &order) => Some(order),
-        _ => None,
-    }
 }
 
 // The register after one operation more, for which there is room.
@@ -128,7 +93,6 @@ impl HostTables {
             ops: Vec::new(alloc),
             ticks: 0,
             index: Index::new(alloc),
-            live: Vec::new(alloc),
             register: Register::new(alloc),
             rules: Rulebook::new(alloc),
         })
@@ -209,19 +173,15 @@ impl Tables for HostTables {
 
     fn apply(&mut self, alloc: Global, op: Op) -> Result<(), NoMemory> {
         self.ops.reserve(1).map_err(|_| NoMemory)?;
-        self.live.reserve(1).map_err(|_| NoMemory)?;
         self.register.room()?;
-        self.index.room(self.live.len())?;
+        self.index.room()?;
         note_rules(alloc, &mut self.rules, &op)?;
         let here = self.ops.len() as u32 + 1;
         let ticks = self.ticks + ticks_of(&op);
         let name = named(&self.register, &op);
-        let ends = self.index.may_end(name, ticks);
         note(&mut self.register, &op);
-        self.index.apply(ends, &self.live, name, &op, ticks, here);
-        end_where(ends, &mut self.live, &self.index.ordered, name, &op, ticks);
-        begin_order(&mut self.live, &op, ticks, here);
-        self.index.soonest = soonest_after(ends, self.index.soonest, &self.live, &op);
+        self.index
+            .apply(&self.ops, name, &op, self.ticks, ticks, here);
         self.ops.push_reserved(op);
         self.ticks = ticks;
         Ok(())

@@ -1,17 +1,18 @@
 //! What is looked up.
-ghost use Rattle.std.specs.Prelude.{◌≡◌, ◌<◌, ◌&&◌, ℕ, length, if◌then◌else◌, OnOk};
+ghost use Rattle.std.specs.Prelude.{◌≡◌, ◌<◌, ◌+◌, ◌==◌, ◌&&◌, ◌++◌, ◌∷◌, [], ℕ, length, if◌then◌else◌, OnOk};
+ghost use Rattle.and_policy.specs.declared.entry.Order.{Order};
 ghost use Rattle.and_policy.specs.Programmes as programmes;
-ghost use Rattle.and_tables.specs.Hints as hints;
-ghost use Rattle.and_tables.specs.Hints.{marked_by};
-ghost use Rattle.and_tables.specs.Numbers.{at, at_pair};
-ghost use Rattle.and_tables.specs.Placing as placing;
-ghost use Rattle.and_tables.specs.Steps as step;
+ghost use Rattle.and_tables.specs.Kept.{AreChained};
 ghost use Rattle.and_tables.specs.Indexes.{IsSameIndex, HasRoom};
+ghost use Rattle.and_tables.specs.Numbers.{at, at_pair};
+ghost use Rattle.and_tables.specs.Orders.{any_alive, hits};
+ghost use Rattle.and_tables.specs.Steps as step;
 
-use crate::hints::{mark, may_end, touch_where};
-use crate::placed::Placed;
-use crate::steps::{enter, order, own};
-use and_policy::{NoMemory, Op};
+use crate::chain::Chain;
+use crate::maps::last;
+use crate::orders::touch_ended;
+use crate::steps::{enter, into_of, order, own, until_of};
+use and_policy::{Entry, NoMemory, Op};
 use std::alloc::Global;
 use std::collections::HashMap;
 
@@ -24,10 +25,10 @@ pub struct Index {
     pub(crate) ordered: HashMap<(u32, u32), u32>,
     /// By network: the place of the last operation that touched it.
     pub(crate) touched: HashMap<u32, u32>,
-    /// By network: not 0 where a live order may be of or into it.
-    pub(crate) marks: HashMap<u32, u32>,
-    /// No live order is over before so many ticks.
-    pub(crate) soonest: u32,
+    /// The orders by destination network.
+    pub(crate) into: Chain,
+    /// The orders by the number of ticks at which they are over.
+    pub(crate) until: Chain,
 }
 
 impl Index {
@@ -36,69 +37,127 @@ impl Index {
         ensures entered { (net : ℕ) → at result.entered net ≡ 0 }
         ensures ordered { (net ip : ℕ) → at_pair result.ordered net ip ≡ 0 }
         ensures touched { (net : ℕ) → at result.touched net ≡ 0 }
+        ensures chained { AreChained [] result }
     {
         Index {
             entered: HashMap::new(alloc),
             ordered: HashMap::new(alloc),
             touched: HashMap::new(alloc),
-            marks: HashMap::new(alloc),
-            soonest: u32::MAX,
+            into: Chain::new(alloc),
+            until: Chain::new(alloc),
         }
     }
 
-    /// Makes room for one operation more, at so many live orders.
-    pub(crate) fn room(&mut self, live: usize) -> Result<(), NoMemory>
+    /// Makes room for one operation more.
+    pub(crate) fn room(&mut self) -> Result<(), NoMemory>
         ensures same { IsSameIndex self.old self.new }
-        ensures ok { OnOk result (HasRoom live self.new) }
+        ensures ok { OnOk result (HasRoom self.new) }
     {
-        let Some(touched) = live.checked_add(1) else {
-            return Err(NoMemory);
-        };
         self.entered.reserve(1).map_err(|_| NoMemory)?;
         self.ordered.reserve(1).map_err(|_| NoMemory)?;
-        self.touched.reserve(touched).map_err(|_| NoMemory)?;
-        self.marks.reserve(2).map_err(|_| NoMemory)?;
+        self.touched.reserve(1).map_err(|_| NoMemory)?;
+        self.into.room()?;
+        self.until.room()?;
         Ok(())
     }
 
-    /// Whether an operation that names this network may end a live order, at so many ticks, but one that it renews.
-    pub(crate) fn may_end(&self, name: Option<u32>, ticks: u32) -> bool
-        ensures { result ≡ hints.may_end (at self.now.marks) self.now.soonest name ticks }
+    // Writes the place `here` at the source network of each live order into the network.
+    fn touch_into(&mut self, ops: &[Op], name: Option<u32>, ticks: u32, here: u32)
+        requires chained { AreChained ops.now self.old }
+        requires here { 0 < here }
+        ensures entered { self.new.entered ≡ self.old.entered }
+        ensures ordered { self.new.ordered ≡ self.old.ordered }
+        ensures into { self.new.into ≡ self.old.into }
+        ensures until { self.new.until ≡ self.old.until }
+        ensures touched { (net : ℕ) → at self.new.touched net
+            ≡ (if any_alive ops.now ticks (at self.old.entered) (at_pair self.old.ordered) (λ o. programmes.is_net name o.to_net && (o.net == net)) then here else at self.old.touched net) }
     {
-        may_end(&self.marks, self.soonest, name, ticks)
+        if let Some(net) = name {
+            let floor = last(&self.entered, net);
+            touch_ended(
+                ops,
+                ticks,
+                &self.entered,
+                &self.ordered,
+                &self.into,
+                net,
+                floor,
+                here,
+                &mut self.touched,
+            );
+        }
     }
 
-    /// One operation more. Where `ends` does not say that it may end a live order, none is looked at.
-    pub(crate) fn apply(
-        &mut self,
-        ends: bool,
-        live: &[Placed],
-        name: Option<u32>,
-        op: &Op,
-        ticks: u32,
-        here: u32,
-    )
-        requires { HasRoom (length live.now) self.old }
-        ensures entered { (net : ℕ) → at self.new.entered net ≡ (if programmes.is_net name net then here else at self.old.entered net) }
-        ensures ordered { (net ip : ℕ) → at_pair self.new.ordered net ip ≡ (if programmes.orders_for net ip op.now then here else at_pair self.old.ordered net ip) }
+    // Writes the place `here` at the source network of each live order that is over at `now` ticks.
+    fn touch_over(&mut self, ops: &[Op], ticks: u32, now: u32, here: u32)
+        requires chained { AreChained ops.now self.old }
+        requires here { 0 < here }
+        ensures entered { self.new.entered ≡ self.old.entered }
+        ensures ordered { self.new.ordered ≡ self.old.ordered }
+        ensures into { self.new.into ≡ self.old.into }
+        ensures until { self.new.until ≡ self.old.until }
         ensures touched { (net : ℕ) → at self.new.touched net
-            ≡ (if programmes.is_net (step.own name op.now) net then here else (if ends && placing.ends_in (at_pair self.old.ordered) name op.now ticks live.now net then here else at self.old.touched net)) }
-        ensures marks { (net : ℕ) → at self.new.marks net ≡ marked_by ends name op.now (at self.old.marks) net }
-        ensures soonest { self.new.soonest ≡ self.old.soonest }
+            ≡ (if any_alive ops.now ticks (at self.old.entered) (at_pair self.old.ordered) (λ o. (o.until == now) && (o.net == net)) then here else at self.old.touched net) }
     {
-        touch_where(
-            ends,
-            live,
-            &self.ordered,
-            name,
-            op,
+        touch_ended(
+            ops,
             ticks,
+            &self.entered,
+            &self.ordered,
+            &self.until,
+            now,
+            0,
             here,
             &mut self.touched,
         );
+    }
+
+    // Writes the place `here` at the source network of each live order that the operation ends. An order that it renews has its own network.
+    fn touch(&mut self, ops: &[Op], name: Option<u32>, op: &Op, ticks: u32, now: u32, here: u32)
+        requires chained { AreChained ops.now self.old }
+        requires here { 0 < here }
+        ensures entered { self.new.entered ≡ self.old.entered }
+        ensures ordered { self.new.ordered ≡ self.old.ordered }
+        ensures into { self.new.into ≡ self.old.into }
+        ensures until { self.new.until ≡ self.old.until }
+        ensures touched { (net : ℕ) → at self.new.touched net
+            ≡ (if any_alive ops.now ticks (at self.old.entered) (at_pair self.old.ordered) (λ o. hits name op.now now o && (o.net == net)) then here else at self.old.touched net) }
+    {
+        match op {
+            Op::Offload(_) => {}
+            Op::Entry(entry) => match entry {
+                Entry::Tick => self.touch_over(ops, ticks, now, here),
+                _ => self.touch_into(ops, name, ticks, here),
+            },
+        }
+    }
+
+    /// One operation more, which stands at the place `here` after the others and names this network. There were so many ticks before it, and are
+    /// `now`.
+    pub(crate) fn apply(
+        &mut self,
+        ops: &[Op],
+        name: Option<u32>,
+        op: &Op,
+        ticks: u32,
+        now: u32,
+        here: u32,
+    )
+        requires room { HasRoom self.old }
+        requires chained { AreChained ops.now self.old }
+        requires here { here ≡ length ops.now + 1 }
+        ensures entered { (net : ℕ) → at self.new.entered net ≡ (if programmes.is_net name net then here else at self.old.entered net) }
+        ensures ordered { (net ip : ℕ) → at_pair self.new.ordered net ip ≡ (if programmes.orders_for net ip op.now then here else at_pair self.old.ordered net ip) }
+        ensures touched { (net : ℕ) → at self.new.touched net
+            ≡ (if any_alive ops.now ticks (at self.old.entered) (at_pair self.old.ordered) (λ o. hits name op.now now o && (o.net == net)) then here
+            else (if programmes.is_net (step.own name op.now) net then here else at self.old.touched net)) }
+        ensures chained { AreChained (ops.now ++ op.now ∷ []) self.new }
+    {
         enter(&mut self.touched, own(name, op), here);
+        self.touch(ops, name, op, ticks, now, here);
         enter(&mut self.entered, name, here);
         order(&mut self.ordered, op, here);
-        mark(ends, &mut self.marks, name, op);
+        self.into.push(into_of(op), here);
+        self.until.push(until_of(op), here);
     }
 }

@@ -4,11 +4,11 @@
 //! tables answer is promised where the entries among their operations are a log.
 #![tactic(auto)]
 
-mod hints;
+mod chain;
 mod host;
 mod index;
 mod maps;
-mod placed;
+mod orders;
 mod rulebook;
 mod rules;
 mod steps;

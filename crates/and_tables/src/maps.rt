@@ -39,3 +39,12 @@ pub(crate) fn put_of(map: &mut HashMap<(u32, u32), u32>, a: u32, b: u32, number:
         Err(_) => unreachable!(),
     }
 }
+
+/// Puts the number at the key, which has one.
+pub(crate) fn change(map: &mut HashMap<u32, u32>, key: u32, number: u32)
+    requires { 0 < at map.old key }
+    ensures { (q : ℕ) → at map.new q ≡ (if key == q then number else at map.old q) }
+{
+    let changed: Result<_, _> = map.insert(key, number);
+    let _ = changed.unwrap();
+}

@@ -9,10 +9,8 @@ invariant_of-result c = record {
   short = rw c.new.ensures.items (omega arith);
   few = rw c.new.ensures.items (omega arith);
   keeps = rw c.new.ensures.items (keeps_start (at c.new-2.result.entered) (at_pair c.new-2.result.ordered) c.new-2.ensures.entered c.new-2.ensures.ordered);
-  placed = rw c.new-3.ensures.items tt;
-  marked = rw c.new-3.ensures.items tt;
-  soon = rw c.new-3.ensures.items tt;
-  knows = rw (c.new.ensures.items, c.new-3.ensures.items) (knows_start (at c.new-2.result.touched) c.new-2.ensures.touched);
-  register = rw c.new.ensures.items (λ log. c.new-4.ensures);
-  rules = rw c.new.ensures.items (λ log. c.new-5.ensures);
+  chained = rw c.new.ensures.items c.new-2.ensures.chained;
+  knows = rw c.new.ensures.items (knows_start (at c.new-2.result.touched) c.new-2.ensures.touched);
+  register = rw c.new.ensures.items (λ log. c.new-3.ensures);
+  rules = rw c.new.ensures.items (λ log. c.new-4.ensures);
 }

@@ -4,7 +4,7 @@ and N.trace for N from 0 on.
 
 Use: generate.py FOLDER COUNT SEED
 The scenarios are of the kinds of items that the program takes so far: networks, VMs, rules, routes, what deletes these, sends and waits, on up
-to seven hosts and eight gateways, with settings of all kinds. Each packet is of a flow of its own, so that no flow cache answers.
+to seven hosts and eight gateways, with settings of all kinds. About half of the packets are of the flow of an earlier one.
 """
 
 import os
@@ -13,6 +13,9 @@ import struct
 import sys
 
 import model
+
+# A decision is found in a flow cache so far where its node is at the number of operations at which it was put.
+model.STAMPS_PER_NETWORK = False
 
 
 def settings_of(draw):
@@ -54,7 +57,7 @@ def scenario_of(draw):
 
 
 def frame_of(draw, vms, number):
-    """A frame of a flow of its own, now and then one that is skipped, spoofed, or for nobody."""
+    """A frame, now and then one that is skipped, spoofed, or for nobody."""
     source, destination = draw.choice(vms), draw.choice(vms)
     mac = draw.choice([source[2]] * 9 + [0x02FFFFFFFFFF])
     addresses = [draw.choice([source[3]] * 9 + ["10.9.9.9"]), draw.choice([destination[3]] * 9 + ["10.8.8.8"])]
@@ -69,15 +72,11 @@ def frame_of(draw, vms, number):
 
 
 def capture_of(draw, vms):
-    """A capture of up to sixty frames. Of the flows without ports, each frame has a source address of its own."""
-    out, seen = struct.pack("<IHHIIII", 0xA1B2C3D4, 2, 4, 0, 0, 262144, 1), set()
+    """A capture of up to sixty frames, of which about half repeat an earlier one, whose packet is then of the same flow."""
+    out, frames = struct.pack("<IHHIIII", 0xA1B2C3D4, 2, 4, 0, 0, 262144, 1), []
     for number in range(draw.randrange(0, 60)):
-        data = frame_of(draw, vms, number)
-        read = model.read_frame(data)
-        if not isinstance(read, str):
-            if read[1] in seen:
-                continue
-            seen.add(read[1])
+        data = draw.choice(frames) if frames and draw.random() < 0.5 else frame_of(draw, vms, number)
+        frames.append(data)
         out += struct.pack("<IIII", 1_000_000_000 + number, number, len(data), len(data)) + data
     return out
 

@@ -13,6 +13,8 @@ import sys
 from formats import Refused, flow_hash, read_capture, read_frame, read_scenario, write_capture
 
 MOST_NETS, MOST_VMS, MOST_RULES = 64, 1024, 256
+# Whether a cached outcome answers as long as its network is not touched. Where not, it answers at the number of operations at which it was put, alone.
+STAMPS_PER_NETWORK = True
 
 
 # ---- the policy under a list of entries
@@ -489,7 +491,7 @@ class Run:
         """Whether the actor's flow cache answers; where it does not, the outcome is put."""
         kept = ("touched", actor[1], count, net)
         if kept not in self.kept:
-            self.kept[kept] = self.touched(actor[1], count, net)
+            self.kept[kept] = self.touched(actor[1], count, net) if STAMPS_PER_NETWORK else count
         group = self.caches.setdefault((actor, flow_hash(key[2]) % 64), [])
         if any(k == key and stamp >= self.kept[kept] for k, stamp in group):
             self.counts["fast"] += 1

@@ -1,9 +1,10 @@
 -- The networks of VMs and of packets, one entry or one event further.
-use Rattle.std.proofs.Common.{◌≡◌, ℕ, zero, suc, ◌+◌, ◌<◌, Bool, true, false, List, [], ◌∷◌, map, length, get_or, set, replicate, take, Option, refl, ap, sym, subst, ◌∙◌}
+use Rattle.std.proofs.Common.{◌≡◌, ℕ, zero, suc, ◌+◌, ◌<◌, Bool, true, false, List, [], ◌∷◌, ◌++◌, map, length, get_or, set, replicate, take, None, refl, ap, ap₂, sym, subst, ◌∙◌}
 use Rattle.std.proofs.lemmas.List.{map-set, set-get_or, take_more}
 use Rattle.and_policy.specs.declared.entry.Entry.{Entry}
 use Rattle.and_policy.specs.Owners.{or_else}
-use Rattle.and_policy.specs.Placements.{net_by}
+use Rattle.and_policy.specs.declared.placements.Placements.{Placements}
+use Rattle.and_policy.specs.Placements.{ArePlacements, net_by}
 use Rattle.and_policy.specs.Programmes.{net_of_vm}
 use Rattle.and_policy.proofs.Placing.{net-append}
 use Rattle.and_events.specs.declared.event.Node.{Node}
@@ -33,11 +34,17 @@ use Rattle.and_report.specs.Nets.{net_of, nets_in, departs_under, passes_under, 
 pub net_more : (vm : ℕ) (log : List Entry) (i : ℕ) (d : Entry) → i < length log → net_of_vm (take (i + 1) log) vm ≡ or_else (net_of_vm (take i log) vm) (net_by vm (get_or log i d))
 net_more vm log i d here = ap (λ k. net_of_vm k vm) (take_more log i d here) ∙ net-append vm (take i log) (get_or log i d)
 
-pub net_next : (vm : ℕ) (log items : List Entry) (i : ℕ) (d : Entry) (old new : Option ℕ) → items ≡ log → i < length items → old ≡ net_of_vm (take i log) vm
-    → new ≡ or_else old (net_by vm (get_or items i d)) → new ≡ net_of_vm (take (i + 1) log) vm
-net_next vm log items i d old new same here was is =
-    is ∙ ap (λ o. or_else o (net_by vm (get_or items i d))) was ∙ ap (λ (l : List Entry). or_else (net_of_vm (take i log) vm) (net_by vm (get_or l i d))) same
-    ∙ sym (net_more vm log i d (subst (λ (l : List Entry). i < length l) same here))
+pub placed_next : (new : Placements) (log items : List Entry) (i : ℕ) (d : Entry) → items ≡ log → i < length items
+    → ArePlacements new (take i log ++ get_or items i d ∷ []) → ArePlacements new (take (i + 1) log)
+placed_next new log items i d same here placed =
+    subst (ArePlacements new)
+    (ap (λ (l : List Entry). take i log ++ get_or l i d ∷ []) same ∙ sym (take_more log i d (subst (λ (l : List Entry). i < length l) same here))) placed
+
+pub short_next : (vm : ℕ) (log items : List Entry) (i : ℕ) (d : Entry) → items ≡ log → i < length items
+    → net_of_vm (take i log) vm ≡ None → net_by vm (get_or items i d) ≡ None → net_of_vm (take (i + 1) log) vm ≡ None
+short_next vm log items i d same here before by =
+    net_more vm log i d (subst (λ (l : List Entry). i < length l) same here)
+    ∙ ap₂ or_else before (ap (λ (l : List Entry). net_by vm (get_or l i d)) (sym same) ∙ by)
 
 -- ---- packets
 

@@ -1,8 +1,7 @@
 -- The networks of VMs and of packets, as the pass over the lines keeps them.
-use Rattle.std.specs.Prelude.{◌≡◌, ℕ, ◌<◌, List, length, map, slice_set, slice_index_or, Option, None}
-use Rattle.and_policy.specs.declared.entry.Entry.{Entry}
-use Rattle.and_policy.specs.Owners.{or_else}
-use Rattle.and_policy.specs.Placements.{net_by}
+use Rattle.std.specs.Prelude.{◌≡◌, ℕ, ◌≤◌, ◌^◌, List, map, slice_set, slice_index_or, Option, None}
+use Rattle.and_policy.specs.declared.placements.Placements.{Placements}
+use Rattle.and_policy.specs.Placements.{ArePlacements}
 use Rattle.and_policy.specs.Programmes.{net_of_vm}
 use Rattle.and_events.specs.declared.event.Carried.{Carried}
 use Rattle.and_events.specs.declared.event.End.TheVariants.{Queued}
@@ -19,14 +18,10 @@ use Rattle.and_report.specs.Fates.{inject_fate, departure_fate, end_fate, passag
 
 -- ---- VMs
 
--- the networks, with that of the VM that an entry adds
-abbrev pub Notes : Entry → List (Option ℕ) → List (Option ℕ) → Type 0
-Notes e old new = (vm : ℕ) → vm < length old → slice_index_or new vm None ≡ or_else (slice_index_or old vm None) (net_by vm e)
-
--- the network of each VM that the plan's log adds, by number
-pub record AreVmNets (plan : Plan) (nets : List (Option ℕ)) : Type 0 where
-  pub len : length nets ≡ length plan.names
-  pub known : (vm : ℕ) → vm < length plan.names → slice_index_or nets vm None ≡ net_of_vm plan.log vm
+-- the placements are those of the plan's log, where each VM has a number of 32 bits
+pub record AreVmNets (plan : Plan) (nets : Placements) : Type 0 where
+  pub placements : ArePlacements nets plan.log
+  pub short : (vm : ℕ) → 2 ^ 32 ≤ vm → net_of_vm plan.log vm ≡ None
 
 -- ---- packets
 

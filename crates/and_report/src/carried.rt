@@ -5,7 +5,7 @@ ghost use Rattle.and_report.specs.Nets as spec;
 
 use crate::vm_nets::own_net;
 use and_events::{Departure, End, Event, Passage, Plan};
-use and_policy::{Dest, NoMemory};
+use and_policy::{Dest, NoMemory, Placements};
 use std::alloc::Global;
 
 /// The networks before any event.
@@ -73,7 +73,7 @@ fn passes(nets: &mut Vec<u32>, packet: u32, passage: Passage)
 }
 
 /// Follows an event: a packet that leaves or is routed gets a network.
-pub(crate) fn follow_nets(plan: &Plan, vm_nets: &[Option<u32>], nets: &mut Vec<u32>, event: &Event)
+pub(crate) fn follow_nets(plan: &Plan, vm_nets: &Placements, nets: &mut Vec<u32>, event: &Event)
     requires { spec.AreVmNets plan.now vm_nets.now }
     ensures { nets.new.items ≡ spec.nets_after plan.now nets.old.items event.now }
 {

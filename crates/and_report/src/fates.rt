@@ -8,7 +8,7 @@ use crate::carried::net_at;
 use crate::fate::Fate;
 use crate::vm_nets::own_net;
 use and_events::{Arrival, Departure, End, Event, Passage, Plan, Return};
-use and_policy::Name;
+use and_policy::{Name, Placements};
 
 fn end_fate(end: End) -> Option<Fate>
     ensures { result ≡ spec.end_fate end }
@@ -97,7 +97,7 @@ fn arrival_fate(net: u32, arrival: Arrival) -> Option<Fate>
 /// of no packet.
 pub(crate) fn fate_under(
     plan: &Plan,
-    vm_nets: &[Option<u32>],
+    vm_nets: &Placements,
     nets: &[u32],
     event: &Event,
 ) -> Option<Fate>

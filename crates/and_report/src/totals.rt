@@ -11,7 +11,7 @@ use crate::fates::fate_under;
 use crate::keyed::{Drops, add_drop};
 use crate::vms::raise;
 use and_events::{Event, Line, Plan};
-use and_policy::NoMemory;
+use and_policy::{NoMemory, Placements};
 use std::alloc::Global;
 use std::collections::BTreeMap;
 
@@ -60,7 +60,7 @@ fn add_fate(t: &mut FateTotals, fate: Fate) -> Result<(), NoMemory>
 // Counts an event, before which packets carry these networks.
 fn add_event(
     plan: &Plan,
-    vm_nets: &[Option<u32>],
+    vm_nets: &Placements,
     nets: &[u32],
     totals: &mut Totals,
     event: &Event,
@@ -98,7 +98,7 @@ fn nothing(alloc: Global, plan: &Plan) -> Result<Totals, NoMemory>
 pub(crate) fn totals_of(
     alloc: Global,
     plan: &Plan,
-    vm_nets: &[Option<u32>],
+    vm_nets: &Placements,
     lines: &[Line],
 ) -> Result<Totals, NoMemory>
     requires { AreVmNets plan.now vm_nets.now }

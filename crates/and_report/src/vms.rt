@@ -8,8 +8,9 @@ ghost use Rattle.and_report.specs.Vms as spec;
 
 use crate::counts::plus;
 use crate::rows::put;
+use crate::vm_nets::net_of;
 use and_events::Plan;
-use and_policy::NoMemory;
+use and_policy::{NoMemory, Placements};
 use std::alloc::Global;
 
 /// Raises the count at a place, where there is one.
@@ -74,7 +75,7 @@ fn put_vm(
 pub(crate) fn put_vms(
     alloc: Global,
     plan: &Plan,
-    vm_nets: &[Option<u32>],
+    vm_nets: &Placements,
     received: &[u64],
     text: &mut Vec<u8>,
 ) -> Result<(), NoMemory>
@@ -86,7 +87,7 @@ pub(crate) fn put_vms(
     for (vm, name) in plan.names.as_slice().iter().enumerate() {
         put_vm(
             alloc,
-            vm_nets[vm],
+            net_of(vm_nets, vm),
             name.as_bytes(),
             sent[vm],
             received[vm],

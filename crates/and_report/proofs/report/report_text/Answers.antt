@@ -21,5 +21,5 @@ returns c =
           (c.in_ok-put_some_rows.ensures ∙ ap (λ l. c.put_rows.new.text.items ++ some_rows l) (c.skip_rows.ensures ∙ ap skip_rows c.as_slice.ensures))
           (c.in_ok-put_drops.ensures t are.fates)
           (c.in_ok-put_items.ensures ∙ ap (λ l. c.put_drops.new.text.items ++ flat_map item_line l) c.as_slice-2.ensures)
-          (c.in_ok-put_vms.ensures t (subst (AreReceived t.fates) (sym c.deref-3.ensures.value) are.fates.received));
+          (c.in_ok-put_vms.ensures t (subst (AreReceived t.fates) (sym c.deref.ensures.value) are.fates.received));
     }

@@ -1,4 +1,4 @@
-use Rattle.std.proofs.Common.{◌≡◌, ◌<◌, ◌++◌, None, length, get_or, ap, subst, ◌∙◌, arith}
+use Rattle.std.proofs.Common.{◌≡◌, ◌<◌, ◌++◌, length, get_or, ap, subst, ◌∙◌, arith}
 use Rattle.std.proofs.lemmas.List.{get_or_default}
 use Rattle.and_report.specs.Vms.{vm_counted_if}
 use Rattle.and_report.proofs.VmLemmas.{line_is, next_vm}
@@ -9,7 +9,7 @@ loop-vm-preserved c = λ t received.
     let vm = c.loop-vm.vm in
     let names = c.args.plan.now.names in
     let name = c.name-item.result in
-    let net = get_or c.args.vm_nets.now vm None in
+    let net = c.net_of.result in
     let sent = c.index.result.now in
     let count = get_or c.args.received.now vm 0 in
     let here : vm < length names = subst (λ xs. c.loop-vm.vm < length xs) c.as_slice-name-items.ensures c.loop-vm-test.true in
@@ -19,4 +19,4 @@ loop-vm-preserved c = λ t received.
     (c.name-item.is ∙ ap (λ xs. get_or xs vm name) c.as_slice-name-items.ensures) (c.loop-vm.invariant t received)
     (c.in_ok-put_vm.ensures ∙ ap (λ n. c.loop-vm.text.items ++ vm_counted_if net n sent count) c.as_bytes.ensures
     ∙ ap (λ l. c.loop-vm.text.items ++ l)
-    (line_is c.args.plan.now t vm name net sent count (c.requires.nets.known vm here) (sent_at ∙ c.in_ok-sent.ensures.counts vm here) (received.counts vm within)))
+    (line_is c.args.plan.now t vm name net sent count (c.net_of.ensures c.args.plan.now c.requires.nets) (sent_at ∙ c.in_ok-sent.ensures.counts vm here) (received.counts vm within)))

@@ -78,6 +78,22 @@ pub(crate) fn takers(settings: Settings, queue: u32) -> (u32, u32)
     }
 }
 
+/// Where the hands of the workers at a node begin, and where they end; and the same of its coprocessor or its gateway worker.
+pub(crate) fn hands_at(settings: Settings, node: u32) -> ((u32, u32), (u32, u32))
+    requires small { IsSmall settings }
+    requires node { node < node_count settings }
+    ensures workers_within { result.0.1 ≤ hand_count settings }
+    ensures other_within { result.1.1 ≤ hand_count settings }
+    ensures all { (k : ℕ) → k < hand_count settings → spec.hand_node settings k ≡ node → ((result.0.0 ≤ k) × (k < result.0.1)) ⊎ ((result.1.0 ≤ k) × (k < result.1.1)) }
+{
+    let hand = settings.hosts * settings.workers + node;
+    if node < settings.hosts {
+        (workers_of(settings, node), (hand, hand + 1))
+    } else {
+        ((0, 0), (hand, hand + 1))
+    }
+}
+
 // The place of the node at which the hand's actor works.
 fn hand_node(settings: Settings, hand: u32) -> u32
     requires small { IsSmall settings }

@@ -7,7 +7,7 @@ ghost use Rattle.and_kept.specs.Busy as spec;
 ghost use Rattle.and_kept.specs.Lanes.{parcels_at, with_parcel, without_first};
 ghost use Rattle.and_kept.specs.Numbers.{count_below};
 
-use crate::busy::{refresh, takers};
+use crate::busy::{hands_at, refresh, takers};
 use crate::count::{count_hands, count_nodes, no_marks};
 use crate::hands::Hands;
 use crate::numbers::NumberSet;
@@ -105,20 +105,28 @@ impl Hall {
         self.hands.at(hand)
     }
 
-    /// Forwarding is held at the node, or is not.
+    /// Forwarding is held at the node, or is not. Its own hands alone are looked at.
     pub(crate) fn hold(&mut self, node: usize, on: bool)
         requires { node < node_count self.old.settings }
         ensures { self.new ≡ record self.old { held = slice_set self.old.held node on } }
     {
         self.held[node] = on;
-        let count = count_hands(self.settings);
+        let (workers, other) = hands_at(self.settings, node as u32);
         refresh(
             self.settings,
             &self.queues,
             &self.hands,
             &self.held,
             &mut self.busy,
-            (0, count),
+            workers,
+        );
+        refresh(
+            self.settings,
+            &self.queues,
+            &self.hands,
+            &self.held,
+            &mut self.busy,
+            other,
         );
     }
 

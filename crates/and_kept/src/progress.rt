@@ -226,11 +226,7 @@ impl Progress {
         ensures { self.new ≡ record self.old { held = slice_set self.old.held node on } }
     {
         self.held[node] = on;
-        refresh(
-            &self.nodes,
-            &self.held,
-            &mut self.ready,
-            (node as u32, node as u32 + 1),
-        );
+        let place = node as u32;
+        refresh(&self.nodes, &self.held, &mut self.ready, (place, place + 1));
     }
 }

@@ -47,6 +47,7 @@ pub mod GoingOn
 pub mod Unstuck
 pub mod Holding
 pub mod Knowing
+pub mod Quieted
 pub mod Standing
 pub mod Deciding
 pub mod Choosing

@@ -1,6 +1,7 @@
--- In a run of a built plan an actor may act by what is kept where it is enabled; and the step that is due injects a packet of the plan.
+-- In a run of a built plan an actor may act by what is kept where it is enabled; and the step that is due injects a packet of the plan,
+-- or holds at a node of it.
 use Rattle.std.proofs.Common.{false}
-use Rattle.and_events.specs.Places.{actor_number, actor_count, IsActor}
+use Rattle.and_events.specs.Places.{actor_number, actor_count, node_place, IsActor, IsNode}
 use Rattle.and_kept.specs.Numbers.{count_below}
 use Rattle.and_book.specs.Enabling.{acts_at, acts_by}
 use Rattle.and_book.proofs.Numbered.{at_number, at_acts}
@@ -12,23 +13,29 @@ use Rattle.and_policy.specs.declared.port.Port.TheVariants.{Absent, Running, Pau
 use Rattle.and_events.specs.declared.event.Actor.{Actor}
 use Rattle.and_events.specs.declared.event.Actor.TheVariants.{HostInstall, GateInstall, Worker, Coproc, Gateway, Controller, Driver}
 use Rattle.and_events.specs.declared.event.Event.{Event}
+use Rattle.and_events.specs.declared.event.Node.{Node}
 use Rattle.and_events.specs.declared.event.Node.TheVariants.{Host, Gate}
+use Rattle.and_events.specs.declared.plan.What.{What}
+use Rattle.and_events.specs.declared.plan.What.TheVariants.{Install, Forward}
 use Rattle.and_events.specs.declared.plan.Plan.{Plan}
 use Rattle.and_events.specs.declared.plan.Step.{Step}
 use Rattle.and_events.specs.declared.plan.Step.TheVariants as steps
 use Rattle.and_events.specs.Ports.{port_at, IsHairpin}
 use Rattle.and_events.specs.State.{State, state}
-use Rattle.and_events.specs.Legal.{Enabled}
+use Rattle.and_events.specs.Legal.{Enabled, CanHold, CanStep}
 use Rattle.and_events.specs.Run.{Run}
-use Rattle.and_events.specs.Sound.{IsSound, IsBuilt}
+use Rattle.and_events.specs.Sound.{IsSound, IsBuilt, IsBuiltStep}
 use Rattle.and_laws.proofs.Steps.{does}
-use Rattle.and_laws.proofs.Unstuck.{are_free}
-use Rattle.and_laws.proofs.Sizes.{sizes, nodes as nodes_of}
+use Rattle.and_laws.specs.Scripted.{script_at}
+use Rattle.and_laws.proofs.GoingOn.{AreFree}
+use Rattle.and_laws.proofs.StepFacts.{held_there}
+use Rattle.and_laws.proofs.Unstuck.{free_at_end}
 use Rattle.and_book.specs.Inside.{holds_of, Kept, Stands}
-use Rattle.and_book.specs.Enabling.{CanDo, CanAct, IsInjectable}
+use Rattle.and_book.specs.Enabling.{CanDo, CanAct, IsThere, MayHold}
 use Rattle.and_book.proofs.Known.{built_step}
 use Rattle.and_book.proofs.PlainPorts.{IsPlain, plain_ports, plain_at, not_hairpin}
-use Rattle.and_book.proofs.Enabled.{installer_may, installer_was, works, worked, does_due, did_step}
+use Rattle.and_book.proofs.Enabled.{installer_may, installer_was, works, worked}
+use Rattle.and_book.proofs.Resting.{rests, rested, ends, ended}
 
 no_pin : (port : Port) → IsPlain port → IsHairpin port → ⊥
 no_pin (Hairpin to entry) plain is = absurd plain
@@ -44,6 +51,47 @@ module _ (plan : Plan) (h : List Event) (sound : IsSound plan) (built : IsBuilt 
   no_pins : (host vm : ℕ) → IsHairpin (port_at s.ports host vm) → ⊥
   no_pins host vm is = no_pin (port_at s.ports host vm) (plain_at s.ports host vm (plain_ports plan h built r)) is
 
+  -- ---- the step that is due
+
+  abbrev CanDoNow : Option Step → Type 0
+  CanDoNow due = CanDo plan.settings plan.packets s.programmes s.node_holds s.flow due
+
+  may_hold : (node : Node) (what : What) → MayHold s.programmes (node_place plan.settings node) what → CanHold plan s node what
+  may_hold node Forward may = tt
+  may_hold node Install may = (may.0, may.1)
+
+  can_hold : (node : Node) (what : What) → CanHold plan s node what → MayHold s.programmes (node_place plan.settings node) what
+  can_hold node Forward can = tt
+  can_hold node Install can = (can.0, can.1)
+
+  ends_free : slice_get plan.steps s.next ≡ Some steps.Finish → AreFree plan s
+  ends_free told = free_at_end plan h sound r (does plan h s.next steps.Finish sound refl told).fits.holds
+
+  does_due : (due : Option Step) → slice_get plan.steps s.next ≡ due → CanDoNow due → (step : Step) × (due ≡ Some step) × CanStep plan s step
+  does_due (Some (steps.Append e)) told can = (steps.Append e, refl, tt)
+  does_due (Some (steps.Hold node what)) told can = (steps.Hold node what, refl, may_hold node what can)
+  does_due (Some (steps.Free node what)) told can = (steps.Free node what, refl, tt)
+  does_due (Some (steps.Inject i)) told can = (steps.Inject i, refl, (can.0, can.1, can.2, can.3))
+  does_due (Some steps.Wait) told can = (steps.Wait, refl, rests plan h sound r can)
+  does_due (Some steps.Finish) told can = (steps.Finish, refl, ends plan h sound r (ends_free told) no_pins can)
+  does_due (Some steps.Review) told can = absurd can
+  does_due (Some (steps.Blackout vm host)) told can = absurd can
+  does_due (Some (steps.Resume vm)) told can = absurd can
+  does_due None told can = absurd can
+
+  did_step : (step : Step) → IsBuiltStep step → CanStep plan s step → CanDoNow (Some step)
+  did_step (steps.Append e) b can = tt
+  did_step (steps.Hold node what) b can = can_hold node what can
+  did_step (steps.Free node what) b can = tt
+  did_step (steps.Inject i) b can = (can.0, can.1, can.2, can.3)
+  did_step steps.Wait b can = rested plan h sound r can
+  did_step steps.Finish b can = ended plan h sound r can
+  did_step steps.Review b can = absurd b
+  did_step (steps.Blackout vm host) b can = absurd b
+  did_step (steps.Resume vm) b can = absurd b
+
+  -- ---- who may act
+
   abbrev CanActNow : Actor → Type 0
   CanActNow a = CanAct plan.settings plan.packets s.programmes s.node_holds s.flow (slice_get plan.steps s.next) a
 
@@ -55,7 +103,7 @@ module _ (plan : Plan) (h : List Event) (sound : IsSound plan) (built : IsBuilt 
   may_act (Gateway k) (is, can) = works plan s (Gateway k) is tt can
   may_act Controller (is, can) = absurd can
   may_act Driver (is, can) =
-      does_due plan s (are_free plan h built r) (sizes plan h) (nodes_of plan h) no_pins (slice_get plan.steps s.next) can
+      does_due (slice_get plan.steps s.next) refl can
 
   pub may_act_of : (a : Actor) → Enabled plan s a → CanActNow a
   may_act_of (HostInstall k) e = installer_was plan s (Host k) e
@@ -66,20 +114,22 @@ module _ (plan : Plan) (h : List Event) (sound : IsSound plan) (built : IsBuilt 
   may_act_of Controller (host, vm, (to, entry, there, port, all)) = absurd (not_hairpin s.ports host vm to entry (plain_ports plan h built r) port)
   may_act_of Driver (step, told, can) = (
     tt,
-    subst (CanDo plan.settings plan.packets s.programmes s.flow) (sym told)
-        (did_step plan s (are_free plan h built r) (sizes plan h) (nodes_of plan h) step (built_step plan s.next step built told) can),
+    subst CanDoNow (sym told) (did_step step (built_step plan s.next step built told) can),
   )
 
-  -- ---- the packet of the step that is due
+  -- ---- the packet and the node of the step that is due
 
   inject_there : (i : ℕ) → slice_get plan.steps s.next ≡ Some (steps.Inject i) → i < length plan.packets
   inject_there i told = let d = (does plan h s.next (steps.Inject i) sound refl told).fits in slice_get_within plan.packets i d.1.0 d.1.1
 
-  due_there : (due : Option Step) → slice_get plan.steps s.next ≡ due → IsInjectable plan.packets due
+  hold_there : (node : Node) (what : What) → slice_get plan.steps s.next ≡ Some (steps.Hold node what) → IsNode plan.settings node
+  hold_there node what told = held_there plan (script_at plan h) node what (does plan h s.next (steps.Hold node what) sound refl told).fits
+
+  due_there : (due : Option Step) → slice_get plan.steps s.next ≡ due → IsThere plan.settings plan.packets due
   due_there (Some (steps.Inject i)) told = inject_there i told
   due_there (Some (steps.Append e)) told = tt
   due_there (Some steps.Review) told = tt
-  due_there (Some (steps.Hold node what)) told = tt
+  due_there (Some (steps.Hold node what)) told = hold_there node what told
   due_there (Some (steps.Free node what)) told = tt
   due_there (Some steps.Wait) told = tt
   due_there (Some (steps.Blackout vm host)) told = tt
@@ -87,8 +137,8 @@ module _ (plan : Plan) (h : List Event) (sound : IsSound plan) (built : IsBuilt 
   due_there (Some steps.Finish) told = tt
   due_there None told = tt
 
-  pub due_injectable : IsInjectable plan.packets (slice_get plan.steps s.next)
-  due_injectable = due_there (slice_get plan.steps s.next) refl
+  pub due_is_there : IsThere plan.settings plan.packets (slice_get plan.steps s.next)
+  due_is_there = due_there (slice_get plan.steps s.next) refl
 
   -- ---- by what is kept
 
@@ -119,7 +169,7 @@ module _ (plan : Plan) (h : List Event) (sound : IsSound plan) (built : IsBuilt 
       ap (λ p. count_below p (actor_count k.roads.settings)) (acts_as_kept k settings st driver) ∙ ap (λ v. count_below (acts_now driver) (actor_count v)) settings
 
   module _ (driver : Bool) (drives : IsTrue driver ↔ Enabled plan s Driver) where
-    does_as : IsTrue driver ↔ CanDo plan.settings plan.packets s.programmes s.flow (slice_get plan.steps s.next)
+    does_as : IsTrue driver ↔ CanDoNow (slice_get plan.steps s.next)
     does_as = ((λ t. (may_act_of Driver (drives.0 t)).1), (λ can. drives.1 (may_act Driver (tt, can))))
 
     -- an actor whose number acts is enabled, and no other one

@@ -6,35 +6,27 @@ use Rattle.and_events.specs.State.{NodeHolds, announced_of}
 use Rattle.and_events.specs.Legal.{forward_held, install_held}
 use Rattle.and_kept.specs.Nodes.{is_ready}
 use Rattle.and_kept.specs.Moves.{IsBusy}
-use Rattle.std.proofs.Common.{◌≡◌, ℕ, ◌+◌, ◌-◌, ◌<◌, ◌≤◌, Bool, true, List, [], ◌∷◌, length, refl, sym, ap, ◌∙◌, subst, arith, Option, Some, None, ⊎_elim, inl, inr, ◌⊎◌}
+use Rattle.std.proofs.Common.{◌≡◌, ℕ, ◌<◌, Bool, true, List, [], ◌∷◌, length, refl, sym, ap, ◌∙◌, arith, Option, Some, None, ⊎_elim, inl, inr, ◌⊎◌}
 use Rattle.std.specs.Prelude.{nat_lt, if◌then◌else◌, ◌↔◌, IsTrue}
-use Rattle.std.proofs.lemmas.Bool.{cases_lt}
 use Rattle.std.proofs.lemmas.Grind.{common_steps}
-use Rattle.std.proofs.lemmas.List.{get_or_default, get_or_past}
 use Rattle.and_events.specs.declared.event.Actor.{Actor}
 use Rattle.and_events.specs.declared.event.Actor.TheVariants.{HostInstall, GateInstall, Worker, Coproc, Gateway, Controller, Driver}
 use Rattle.and_events.specs.declared.event.Held.{Held}
 use Rattle.and_events.specs.declared.event.Node.{Node}
-use Rattle.and_events.specs.declared.event.Node.TheVariants.{Host, Gate}
 use Rattle.and_events.specs.declared.event.Queue.{Queue}
 use Rattle.and_events.specs.declared.event.Queue.TheVariants.{Out, Wire, Seal}
 use Rattle.and_events.specs.declared.plan.Packet.{Packet}
 use Rattle.and_events.specs.declared.plan.Plan.{Plan}
 use Rattle.and_events.specs.declared.plan.Step.{Step}
-use Rattle.and_events.specs.declared.plan.Step.TheVariants as steps
 use Rattle.and_events.specs.declared.plan.Settings.{Settings}
-use Rattle.and_events.specs.Places.{node_place, node_count, queue_place, hand_place, node_of, IsActor, IsNode}
+use Rattle.and_events.specs.Places.{node_place, queue_place, hand_place, node_of, IsActor, IsNode}
 use Rattle.and_events.specs.Flow.{Flow, queue_at, hand_at}
-use Rattle.and_events.specs.Ports.{port_at, IsHairpin}
-use Rattle.and_events.specs.Programming.{Programmes, installed_at, programme_at}
+use Rattle.and_events.specs.Programming.{Programmes}
 use Rattle.and_events.specs.State.{State, installed_of, programme_of}
-use Rattle.and_events.specs.Legal.{CanAnnounce, CanInstall, CanTake, CanStep, HasHand, IsAtRest, IsOver}
-use Rattle.and_events.specs.Sound.{IsBuiltStep}
-use Rattle.and_laws.specs.Sizes.{HasSizes, HasNodes}
-use Rattle.and_laws.proofs.GoingOn.{AreFree, queue_of}
+use Rattle.and_events.specs.Legal.{CanAnnounce, CanInstall, CanTake, HasHand}
 use Rattle.and_events.specs.Places.{Handles}
 use Rattle.and_kept.specs.Moves.{source_in}
-use Rattle.and_book.specs.Enabling.{IsStill, CanDo, Acts}
+use Rattle.and_book.specs.Enabling.{Acts}
 use Rattle.and_book.proofs.Taking.{takes_from}
 
 -- whoever takes packets acts where it is busy
@@ -145,81 +137,3 @@ module _ (plan : Plan) (s : State) where
           (ap (λ x. queue_at s.flow.queues (queue_place plan.settings (node_of a) x)) (sym (source_is plan s a q i t can)) ∙ none)),
     ),
   )
-
-  -- ---- at rest, and over
-
-  module _ (free : AreFree plan s) (sized : HasSizes plan s.flow) (noded : HasNodes plan s.programmes) where
-    place_within : (node : Node) → IsNode plan.settings node → node_place plan.settings node < node_count plan.settings
-    place_within (Host h) is = omega (arith, is)
-    place_within (Gate g) is = omega (arith, is)
-
-    installed_all : IsStill s.programmes s.flow → (node : Node) → IsNode plan.settings node → installed_of plan s node ≡ length (programme_of plan s node)
-    installed_all still node is = still.installed (node_place plan.settings node) (omega (arith, place_within node is, noded.ops))
-
-    empty_all : IsStill s.programmes s.flow → (q : ℕ) → queue_at s.flow.queues q ≡ []
-    empty_all still q =
-        ⊎_elim
-        (λ (l : q < length s.flow.queues). still.queues q [] l)
-        (λ (l : length s.flow.queues ≤ q). get_or_past s.flow.queues q [] l)
-        (cases_lt q (length s.flow.queues))
-
-    rests : IsStill s.programmes s.flow → IsAtRest plan s
-    rests still = record {
-      installed = λ node is unheld. installed_all still node is;
-      hands = still.hands;
-      queues = λ node q is has unheld. empty_all still (queue_place plan.settings node q);
-    }
-
-    ends : ((host vm : ℕ) → IsHairpin (port_at s.ports host vm) → ⊥) → IsStill s.programmes s.flow → IsOver plan s
-    ends none still = record { queues = still.queues; hands = still.hands; installed = installed_all still; hairpins = none }
-
-    installed_places : ((node : Node) → IsNode plan.settings node → installed_of plan s node ≡ length (programme_of plan s node))
-        → (n : ℕ) → n < length s.programmes.ops → installed_at s.programmes n ≡ length (programme_at s.programmes n)
-    installed_places all n l =
-        ⊎_elim
-        (λ (m : n < plan.settings.hosts). all (Host n) m)
-        (λ (m : plan.settings.hosts ≤ n).
-        let same : plan.settings.hosts + (n - plan.settings.hosts) ≡ n = omega (arith, m) in
-        subst (λ k. installed_at s.programmes k ≡ length (programme_at s.programmes k)) same
-        (all (Gate (n - plan.settings.hosts)) (omega (arith, l, m, noded.ops))))
-        (cases_lt n plan.settings.hosts)
-
-    rested : IsAtRest plan s → IsStill s.programmes s.flow
-    rested rest = record {
-      installed = installed_places (λ node is. rest.installed node is (free.install node is));
-      queues = λ k d l.
-          let nothing : List ℕ = [] in
-          let q = queue_of plan.settings k (omega (arith, l, sized.queues)) in
-          get_or_default s.flow.queues k d nothing l
-          ∙ subst (λ p. queue_at s.flow.queues p ≡ []) q.place (rest.queues q.node q.queue q.is q.has (free.forward q.node q.is));
-      hands = rest.hands;
-    }
-
-    ended : IsOver plan s → IsStill s.programmes s.flow
-    ended over = record { installed = installed_places over.installed; queues = over.queues; hands = over.hands }
-
-    -- ---- the step that is due
-
-    pub does_due : ((host vm : ℕ) → IsHairpin (port_at s.ports host vm) → ⊥) → (due : Option Step)
-        → CanDo plan.settings plan.packets s.programmes s.flow due → (step : Step) × (due ≡ Some step) × CanStep plan s step
-    does_due none (Some (steps.Append e)) can = (steps.Append e, refl, tt)
-    does_due none (Some (steps.Inject i)) can = (steps.Inject i, refl, (can.0, can.1, can.2, can.3))
-    does_due none (Some steps.Wait) can = (steps.Wait, refl, rests can)
-    does_due none (Some steps.Finish) can = (steps.Finish, refl, ends none can)
-    does_due none (Some steps.Review) can = absurd can
-    does_due none (Some (steps.Hold node what)) can = absurd can
-    does_due none (Some (steps.Free node what)) can = absurd can
-    does_due none (Some (steps.Blackout vm host)) can = absurd can
-    does_due none (Some (steps.Resume vm)) can = absurd can
-    does_due none None can = absurd can
-
-    pub did_step : (step : Step) → IsBuiltStep step → CanStep plan s step → CanDo plan.settings plan.packets s.programmes s.flow (Some step)
-    did_step (steps.Append e) b can = tt
-    did_step (steps.Inject i) b can = (can.0, can.1, can.2, can.3)
-    did_step steps.Wait b can = rested can
-    did_step steps.Finish b can = ended can
-    did_step steps.Review b can = absurd b
-    did_step (steps.Hold node what) b can = absurd b
-    did_step (steps.Free node what) b can = absurd b
-    did_step (steps.Blackout vm host) b can = absurd b
-    did_step (steps.Resume vm) b can = absurd b

@@ -7,7 +7,7 @@ use Rattle.and_policy.specs.declared.entry.Entry.{Entry}
 use Rattle.and_policy.specs.declared.entry.Entry.TheVariants as entries
 use Rattle.and_events.specs.declared.event.Event.{Event}
 use Rattle.and_events.specs.declared.plan.Step.{Step}
-use Rattle.and_events.specs.declared.plan.Step.TheVariants.{Append, Wait, Inject, Finish}
+use Rattle.and_events.specs.declared.plan.Step.TheVariants.{Append, Hold, Free, Wait, Inject, Finish}
 use Rattle.and_events.specs.declared.plan.Plan.{Plan}
 use Rattle.and_events.specs.Script.{Script, at_start}
 use Rattle.and_events.specs.Sound.{IsSound, StepFits, StepsFit, after_step, sent_after, IsBuilt, IsBuiltStep, IsBuiltEntry}
@@ -41,6 +41,8 @@ known_entry plan p sent entries.Tick f built = absurd built
 -- one step more of the script
 known_step : (plan : Plan) (p : Script) (sent : ℕ) (step : Step) → StepFits plan p sent step → IsBuiltStep step → All (IsKnown plan) p.log → All (IsKnown plan) (after_step p step).log
 known_step plan p sent (Append e) f built known = All-push (IsKnown plan) p.log e known (known_entry plan p sent e f built)
+known_step plan p sent (Hold node what) f built known = known
+known_step plan p sent (Free node what) f built known = known
 known_step plan p sent Wait f built known = known
 known_step plan p sent (Inject i) f built known = known
 known_step plan p sent Finish f built known = absurd f

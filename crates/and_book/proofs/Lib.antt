@@ -17,6 +17,8 @@ pub mod Outgoing
 pub mod FromHand
 pub mod Settling
 pub mod Enabled
+pub mod Resting
+pub mod Holding
 pub mod Numbered
 pub mod Due
 pub mod Listing

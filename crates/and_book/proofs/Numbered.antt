@@ -66,7 +66,7 @@ module _ (v : Settings) (p : Programmes) (m : NodeHolds) (f : Flow) (driver : Bo
       always true n = eq-eqb n n refl
       always false n = refl
 
-module _ (v : Settings) (packets : List Packet) (p : Programmes) (m : NodeHolds) (f : Flow) (due : Option Step) (driver : Bool) (drives : IsTrue driver ↔ CanDo v packets p f due) where
+module _ (v : Settings) (packets : List Packet) (p : Programmes) (m : NodeHolds) (f : Flow) (due : Option Step) (driver : Bool) (drives : IsTrue driver ↔ CanDo v packets p m f due) where
   takes_at : (a : Actor) (is : IsActor v a) (t : Handles a) → acts_at v p m f driver (node_count v + hand_place v a) ≡ is_busy v f.queues f.hands m.forward (hand_place v a)
   takes_at a is t = at_hand v p m f driver (hand_place v a) (hand_there v a is t)
 

@@ -75,6 +75,15 @@ abbrev pub IsAppend : Option Step → Type 0
 IsAppend (Some (steps.Append e)) = Unit {0}
 IsAppend _ = ⊥
 
+-- the step holds something at a node; the step frees it
+abbrev pub IsHold : Option Step → Type 0
+IsHold (Some (steps.Hold node what)) = Unit {0}
+IsHold _ = ⊥
+
+abbrev pub IsFree : Option Step → Type 0
+IsFree (Some (steps.Free node what)) = Unit {0}
+IsFree _ = ⊥
+
 -- the packet finds the `out` queue of its VM's host full
 abbrev pub finds_full : Plan → State → ℕ → Bool
 finds_full plan s i =

@@ -3,16 +3,31 @@ ghost use Rattle.std.specs.Prelude.{◌≡◌, ◌↔◌, ◌<◌, ◌≤◌, tr
 ghost use Rattle.and_events.specs.Places as places;
 ghost use Rattle.and_events.specs.Places.{node_count, IsActor};
 ghost use Rattle.and_kept.specs.Numbers.{count_below};
-ghost use Rattle.and_book.specs.Enabling.{IsStill, IsKnownAtHome, CanDo, IsInjectable, CanAct, Acts, acts_by, vm_in};
+ghost use Rattle.and_book.specs.Enabling.{IsStill, IsKnownAtHome, IsThere, MayHold, CanDo, CanAct, Acts, acts_by, vm_in};
 
-use and_events::{Actor, Items, Packet, Step, actor_count, is_actor};
+use and_events::{Actor, Items, Packet, Step, What, actor_count, is_actor, node_place};
 use and_kept::{Progress, Traffic, count_nodes};
 
-// Whether all is installed, no packet is queued and none in hand.
+// Whether no installer may act and no hand has work.
 fn is_still(progress: &Progress, traffic: &Traffic) -> bool
-    ensures { IsTrue result ↔ IsStill progress.now.programmes traffic.now.flow }
+    ensures { IsTrue result ↔ IsStill traffic.now.settings progress.now.programmes (record { install = progress.now.held; forward = traffic.now.held }) traffic.now.flow }
 {
-    progress.all_installed() && traffic.all_empty() && traffic.all_free()
+    progress.ready_count() + traffic.busy_count() == 0
+}
+
+// Whether forwarding or installs may be held at the node of this place.
+fn may_hold(progress: &Progress, place: usize, what: What) -> bool
+    requires { place < length progress.now.programmes.ops }
+    ensures { IsTrue result ↔ MayHold progress.now.programmes place what }
+{
+    match what {
+        What::Forward => true,
+        What::Install => {
+            let count = progress.programme(place).len();
+            progress.announced(place) as usize == count
+                && progress.installed(place) as usize == count
+        }
+    }
 }
 
 // Whether the host where the VM is has installed the entry that added it.
@@ -46,11 +61,15 @@ pub(crate) fn can_do(
     due: Option<Step>,
 ) -> bool
     requires nodes { length progress.now.programmes.ops ≡ node_count traffic.now.settings }
-    requires injectable { IsInjectable packets.now due }
-    ensures { IsTrue result ↔ CanDo traffic.now.settings packets.now progress.now.programmes traffic.now.flow due }
+    requires there { IsThere traffic.now.settings packets.now due }
+    ensures { IsTrue result ↔ CanDo traffic.now.settings packets.now progress.now.programmes (record { install = progress.now.held; forward = traffic.now.held }) traffic.now.flow due }
 {
     match due {
         Some(Step::Append(_)) => true,
+        Some(Step::Hold { node, what }) => {
+            may_hold(progress, node_place(traffic.settings(), node), what)
+        }
+        Some(Step::Free { .. }) => true,
         Some(Step::Inject { packet }) => {
             is_known_at_home(progress, traffic.settings().hosts, vm_of(packets, packet))
         }
@@ -68,7 +87,7 @@ fn acts(
     actor: Actor,
 ) -> bool
     requires nodes { length progress.now.programmes.ops ≡ node_count traffic.now.settings }
-    requires injectable { IsInjectable packets.now due }
+    requires there { IsThere traffic.now.settings packets.now due }
     requires actor { IsActor traffic.now.settings actor }
     ensures { IsTrue result ↔ Acts traffic.now.settings packets.now progress.now.programmes (record { install = progress.now.held; forward = traffic.now.held }) traffic.now.flow due actor }
 {
@@ -92,7 +111,7 @@ pub(crate) fn can_act(
     actor: Actor,
 ) -> bool
     requires nodes { length progress.now.programmes.ops ≡ node_count traffic.now.settings }
-    requires injectable { IsInjectable packets.now due }
+    requires there { IsThere traffic.now.settings packets.now due }
     ensures { IsTrue result ↔ CanAct traffic.now.settings packets.now progress.now.programmes (record { install = progress.now.held; forward = traffic.now.held }) traffic.now.flow due actor }
 {
     is_actor(traffic.settings(), actor) && acts(packets, progress, traffic, due, actor)

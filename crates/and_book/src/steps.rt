@@ -1,14 +1,19 @@
 //! The steps of the plan.
-ghost use Rattle.std.specs.Prelude.{◌≡◌, ◌+◌, ◌≤◌, Some, slice_get};
+ghost use Rattle.std.specs.Prelude.{◌≡◌, ◌+◌, ◌≤◌, length, true, false, Some, slice_get};
 ghost use Rattle.and_events.specs.declared.event.Actor.TheVariants.{Driver};
-ghost use Rattle.and_events.specs.Legal.{IsAtRest, IsOver, KnowsVm};
+ghost use Rattle.and_events.specs.declared.event.Node.{Node};
+ghost use Rattle.and_events.specs.declared.plan.What.{What};
+ghost use Rattle.and_events.specs.Legal.{CanHold, IsAtRest, IsOver, KnowsVm};
+ghost use Rattle.and_events.specs.Places as places;
+ghost use Rattle.and_events.specs.Places.{IsNode, node_count};
 ghost use Rattle.and_events.specs.Ports.{ports_after};
 ghost use Rattle.and_events.specs.Sound.{IsBuiltEntry};
-ghost use Rattle.and_events.specs.State.{home, packet_at, ports_move_of_entry};
-ghost use Rattle.and_book.specs.Views.{now, held, IsSeat, with_line, IsPacket, IsAppend, finds_full};
+ghost use Rattle.and_events.specs.State.{home, packet_at, ports_move_of_entry, with_hold};
+ghost use Rattle.and_book.specs.Views.{now, held, IsSeat, with_line, IsPacket, IsAppend, IsHold, IsFree, finds_full};
 
 use crate::book::Book;
-use and_events::{Event, Items, Line, Step};
+use and_events::{Event, Items, Line, Node, Step, What, node_place};
+use and_kept::{Progress, Traffic};
 use and_parcel::Parcel;
 use and_policy::Entry;
 use and_ports::Ports;
@@ -29,6 +34,42 @@ impl Book {
         self.lines.push_reserved(Line {
             seat,
             event: Event::Append { step },
+        });
+    }
+
+    /// What the step that is due names is held at its node: its installer announces nothing, or nobody there takes a packet,
+    /// until it is freed. It takes a few steps for each worker of that node.
+    pub fn hold(&mut self, seat: u32)
+        requires seat { IsSeat self.old seat Driver }
+        requires due { IsHold (slice_get self.old.plan.steps (now self.old).next) }
+        requires ready { (node : Node) (what : What) → slice_get self.old.plan.steps (now self.old).next ≡ Some (Step.Hold node what) → CanHold self.old.plan (now self.old) node what }
+        requires room { held self.old + 1 ≤ self.old.spare }
+        ensures { self.new ≡ with_line self.old seat (Event.Hold (now self.old).next) }
+    {
+        let step = self.next;
+        let due = due_hold(&self.plan.steps, step);
+        note_hold(&mut self.progress, &mut self.traffic, due.0, due.1, true);
+        self.next += 1;
+        self.lines.push_reserved(Line {
+            seat,
+            event: Event::Hold { step },
+        });
+    }
+
+    /// What the step that is due names is held at its node no more. It takes a few steps for each worker of that node.
+    pub fn free(&mut self, seat: u32)
+        requires seat { IsSeat self.old seat Driver }
+        requires due { IsFree (slice_get self.old.plan.steps (now self.old).next) }
+        requires room { held self.old + 1 ≤ self.old.spare }
+        ensures { self.new ≡ with_line self.old seat (Event.Free (now self.old).next) }
+    {
+        let step = self.next;
+        let due = due_free(&self.plan.steps, step);
+        note_hold(&mut self.progress, &mut self.traffic, due.0, due.1, false);
+        self.next += 1;
+        self.lines.push_reserved(Line {
+            seat,
+            event: Event::Free { step },
         });
     }
 
@@ -93,6 +134,41 @@ fn due_entry(steps: &Items<Step>, step: u32) -> Entry
     match steps.get(step as usize) {
         Some(Step::Append(entry)) => *entry,
         _ => unreachable!(),
+    }
+}
+
+// The node at which a step holds, and what.
+fn due_hold(steps: &Items<Step>, step: u32) -> (Node, What)
+    requires { IsHold (slice_get steps.now step) }
+    ensures { slice_get steps.now step ≡ Some (Step.Hold result.0 result.1) }
+{
+    match steps.get(step as usize) {
+        Some(Step::Hold { node, what }) => (*node, *what),
+        _ => unreachable!(),
+    }
+}
+
+// The node at which a step frees, and what.
+fn due_free(steps: &Items<Step>, step: u32) -> (Node, What)
+    requires { IsFree (slice_get steps.now step) }
+    ensures { slice_get steps.now step ≡ Some (Step.Free result.0 result.1) }
+{
+    match steps.get(step as usize) {
+        Some(Step::Free { node, what }) => (*node, *what),
+        _ => unreachable!(),
+    }
+}
+
+// Installs or forwarding are held at the node, or are not.
+fn note_hold(progress: &mut Progress, traffic: &mut Traffic, node: Node, what: What, on: bool)
+    requires node { IsNode traffic.old.settings node }
+    requires nodes { length progress.old.programmes.ops ≡ node_count traffic.old.settings }
+    ensures installs { progress.new ≡ record progress.old { held = (with_hold (record { install = progress.old.held; forward = traffic.old.held }) (places.node_place traffic.old.settings node) what on).install } }
+    ensures forwards { traffic.new ≡ record traffic.old { held = (with_hold (record { install = progress.old.held; forward = traffic.old.held }) (places.node_place traffic.old.settings node) what on).forward } }
+{
+    match what {
+        What::Install => progress.hold(node_place(traffic.settings(), node), on),
+        What::Forward => traffic.hold(node, on),
     }
 }
 

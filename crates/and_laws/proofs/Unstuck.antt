@@ -124,7 +124,7 @@ pin_there plan h host vm is =
     (omega (arith, pin_within (ports_of ports vm) host some, (port_sizes plan h).hosts vm named), named)
 
 -- nothing is held at the end
-free_at_end : (plan : Plan) (h : List Event) → IsSound plan → Run plan h → (script_at plan h).holds ≡ [] → AreFree plan (state plan h)
+pub free_at_end : (plan : Plan) (h : List Event) → IsSound plan → Run plan h → (script_at plan h).holds ≡ [] → AreFree plan (state plan h)
 free_at_end plan h sound r none =
     record {
       install = λ node there. by_held node Install there (install_held plan (state plan h) node) refl;

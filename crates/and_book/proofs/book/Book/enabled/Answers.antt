@@ -5,18 +5,19 @@ use Rattle.and_events.specs.Legal.{Enabled}
 use Rattle.and_events.specs.Run.{past}
 use Rattle.and_book.specs.Views.{BookView, now}
 use Rattle.and_book.specs.Inside.{Kept, kept_of}
-use Rattle.and_book.specs.Enabling.{IsInjectable}
+use Rattle.and_book.specs.Enabling.{IsThere}
 use Rattle.and_book.proofs.More.{seen}
-use Rattle.and_book.proofs.Due.{enabled_by, due_injectable}
+use Rattle.and_book.proofs.Due.{enabled_by, due_is_there}
 use Rattle.and_book.proofs.book.Book.enabled.Goals as goal
 
-pub can_act-requires-clause-injectable : goal.can_act-requires-clause-injectable
-can_act-requires-clause-injectable c =
+pub can_act-requires-clause-there : goal.can_act-requires-clause-there
+can_act-requires-clause-there c =
     let x = c.self.inside in
     let plan : Plan = x.plan in
     let inv = c.self.invariant in
     let due = seen x c.args.self.now c.self.view_is (λ (b : BookView). c.next_step.result ≡ slice_get b.plan.steps (now b).next) c.next_step.ensures in
-    subst (IsInjectable plan.packets) (sym due) (due_injectable plan (past x.lines.items) inv.sound inv.built inv.run)
+    subst (λ v. IsThere v plan.packets c.next_step.result) (sym inv.sized.settings)
+    (subst (IsThere plan.settings plan.packets) (sym due) (due_is_there plan (past x.lines.items) inv.sound inv.built inv.run))
 
 pub returns : goal.returns
 returns c =

@@ -9,8 +9,12 @@ use Rattle.and_events.specs.declared.plan.Packet.{Packet}
 use Rattle.and_events.specs.declared.plan.Plan.{Plan}
 use Rattle.and_events.specs.declared.plan.Step.{Step}
 use Rattle.and_events.specs.declared.plan.Step.TheVariants as steps
+use Rattle.and_events.specs.declared.event.Actor.TheVariants.{Driver}
+use Rattle.and_events.specs.declared.event.Node.{Node}
+use Rattle.and_events.specs.declared.plan.What.{What}
+use Rattle.and_events.specs.Legal.{Enabled, CanHold, CanStep}
 use Rattle.and_events.specs.Sound.{IsSound, IsBuiltStep}
-use Rattle.and_events.specs.State.{state, packet_at, no_packet}
+use Rattle.and_events.specs.State.{State, state, packet_at, no_packet}
 use Rattle.and_laws.proofs.Steps.{does}
 
 pub record Due (plan : Plan) (i : ℕ) : Type 0 where
@@ -27,14 +31,21 @@ due_packet plan h i sound told =
       read = subst (λ (p : Packet). IsOk (fields p.taken.frame)) (sym there) (subst IsOk (sym d.1.2.frame) refl);
     }
 
--- a step of a built plan is of one of four kinds
-pub no_other : (step : Step) → IsBuiltStep step → ((e : Entry) → step ≡ steps.Append e → ⊥) → ((i : ℕ) → step ≡ steps.Inject i → ⊥) → (step ≡ steps.Wait → ⊥) → (step ≡ steps.Finish → ⊥) → ⊥
-no_other (steps.Append e) built a i w f = a e refl
-no_other (steps.Inject n) built a i w f = i n refl
-no_other steps.Wait built a i w f = w refl
-no_other steps.Finish built a i w f = f refl
-no_other steps.Review built a i w f = built
-no_other (steps.Hold node what) built a i w f = built
-no_other (steps.Free node what) built a i w f = built
-no_other (steps.Blackout vm host) built a i w f = built
-no_other (steps.Resume vm) built a i w f = built
+-- where the driver may act, what the step that is due holds may be held
+pub can_hold : (plan : Plan) (s : State) → Enabled plan s Driver → (node : Node) (what : What) → slice_get plan.steps s.next ≡ Some (steps.Hold node what) → CanHold plan s node what
+can_hold plan s (step, told, can) node what due =
+    let both : Some step ≡ Some (steps.Hold node what) = sym told ∙ due in
+    let same : step ≡ steps.Hold node what = cc in subst (CanStep plan s) same can
+
+-- a step of a built plan is of one of six kinds
+pub no_other : (step : Step) → IsBuiltStep step → ((e : Entry) → step ≡ steps.Append e → ⊥) → ((i : ℕ) → step ≡ steps.Inject i → ⊥)
+    → ((node : Node) (what : What) → step ≡ steps.Hold node what → ⊥) → ((node : Node) (what : What) → step ≡ steps.Free node what → ⊥) → (step ≡ steps.Wait → ⊥) → (step ≡ steps.Finish → ⊥) → ⊥
+no_other (steps.Append e) built a i h r w f = a e refl
+no_other (steps.Inject n) built a i h r w f = i n refl
+no_other (steps.Hold node what) built a i h r w f = h node what refl
+no_other (steps.Free node what) built a i h r w f = r node what refl
+no_other steps.Wait built a i h r w f = w refl
+no_other steps.Finish built a i h r w f = f refl
+no_other steps.Review built a i h r w f = built
+no_other (steps.Blackout vm host) built a i h r w f = built
+no_other (steps.Resume vm) built a i h r w f = built

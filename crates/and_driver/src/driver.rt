@@ -60,6 +60,14 @@ fn drive(alloc: Global, book: &mut Book, seat: u32) -> Result<(), NoMemory>
             book.inject(seat, parcel);
             Ok(())
         }
+        Step::Hold { .. } => {
+            book.hold(seat);
+            Ok(())
+        }
+        Step::Free { .. } => {
+            book.free(seat);
+            Ok(())
+        }
         Step::Wait => {
             book.wait(seat);
             Ok(())

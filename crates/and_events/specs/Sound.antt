@@ -148,6 +148,8 @@ IsBuiltEntry _ = ⊥
 
 abbrev pub IsBuiltStep : Step → Type 0
 IsBuiltStep (Append e) = IsBuiltEntry e
+IsBuiltStep (Hold node what) = Unit {0}
+IsBuiltStep (Free node what) = Unit {0}
 IsBuiltStep Wait = Unit {0}
 IsBuiltStep (Inject i) = Unit {0}
 IsBuiltStep Finish = Unit {0}

@@ -1,9 +1,8 @@
 -- No run of a sound plan is stuck before its end.
-use Rattle.std.proofs.Common.{◌≡◌, ◌≢◌, ℕ, zero, suc, ◌<◌, ◌≤◌, Bool, true, false, List, [], ◌∷◌, length, get_or, refl, sym, ap, ◌∙◌, subst, arith, Some, None, ⊎_elim, inl, inr, ◌⊎◌}
+use Rattle.std.proofs.Common.{◌≡◌, ◌≢◌, ℕ, ◌<◌, ◌≤◌, Bool, true, false, List, [], ◌∷◌, length, get_or, refl, sym, ap, ◌∙◌, subst, arith, Some, None, ⊎_elim, inl, inr, ◌⊎◌}
 use Rattle.std.specs.Prelude.{slice_get, unwrap_or, ◌==◌}
-use Rattle.std.specs.List.{AllByRecursion, list_any}
+use Rattle.std.specs.List.{list_any}
 use Rattle.std.proofs.lemmas.List.{take_all}
-use Rattle.std.proofs.lemmas.List.Elements.{recursion_from_All}
 use Rattle.std.proofs.lemmas.Option.{slice_get_cases, unwrap_or-slice_get}
 use Rattle.and_policy.specs.declared.entry.Entry.{Entry}
 use Rattle.and_policy.specs.declared.port.Port.{Port}
@@ -25,10 +24,10 @@ use Rattle.and_events.specs.Places.{node_count, node_place, IsNode}
 use Rattle.and_events.specs.Ports.{ports_of, port_at, ports_after, IsHairpin}
 use Rattle.and_events.specs.Programming.{programme_at, installed_at, entries_installed}
 use Rattle.and_events.specs.Script.{is_hold, is_moving}
-use Rattle.and_events.specs.State.{NodeHolds, state, start, after, holds_after, holds_by, with_hold, ports_move_of, word_of, packet_at, no_packet, home, programme_of, installed_of}
+use Rattle.and_events.specs.State.{state, start, after, holds_after, holds_by, with_hold, ports_move_of, word_of, packet_at, no_packet, home, programme_of, installed_of}
 use Rattle.and_events.specs.Legal.{Legal, IsAtRest, IsOver, CanStep, CanHold, KnowsVm, install_held, forward_held}
 use Rattle.and_events.specs.Run.{Run}
-use Rattle.and_events.specs.Sound.{IsSound, IsBuilt, IsBuiltStep}
+use Rattle.and_events.specs.Sound.{IsSound}
 use Rattle.and_laws.specs.LivePorts.{FitsPorts}
 use Rattle.and_laws.specs.Scripted.{script_at}
 use Rattle.and_laws.specs.Progress.{GoesOn}
@@ -47,32 +46,6 @@ use Rattle.and_laws.proofs.Sizes.{nodes, port_sizes}
 use Rattle.and_laws.proofs.Standing.{PinIn, home_stands, stands_live, not_held, stood, pins_logged}
 use Rattle.and_laws.proofs.StepFacts.{held_there, not_held_before, paused_at_rest}
 use Rattle.and_laws.proofs.Steps.{does}
-
--- ---- what the program runs so far holds nothing
-
-step_among : (ss : List Step) (n : ℕ) (step : Step) → AllByRecursion IsBuiltStep ss → slice_get ss n ≡ Some step → IsBuiltStep step
-step_among [] n step all told = absurd (let nothing : None ≡ Some step = told in cc)
-step_among (first ∷ later) zero step all told = let same : first ≡ step = cc in subst IsBuiltStep same all.0
-step_among (first ∷ later) (suc n) step all told = step_among later n step all.1 told
-
-built_step : (plan : Plan) (n : ℕ) (step : Step) → IsBuilt plan → slice_get plan.steps n ≡ Some step → IsBuiltStep step
-built_step plan n step b told = step_among plan.steps n step (recursion_from_All IsBuiltStep plan.steps b.steps) told
-
-record HoldNothing (holds : NodeHolds) : Type 0 where
-  pub install : (k : ℕ) → get_or holds.install k false ≡ false
-  pub forward : (k : ℕ) → get_or holds.forward k false ≡ false
-
-nothing_held : (plan : Plan) (h : List Event) → IsBuilt plan → Run plan h → HoldNothing (state plan h).node_holds
-unfolding Run Legal state start after holds_after
-nothing_held plan [] b r = record { install = λ k. replicate_at (node_count plan.settings) k false; forward = λ k. replicate_at (node_count plan.settings) k false }
-nothing_held plan (Hold n ∷ h) b r = absurd (built_step plan n (steps.Hold r.1.0 r.1.1) b r.1.2.1)
-nothing_held plan (Free n ∷ h) b r = absurd (built_step plan n (steps.Free r.1.0 r.1.1) b r.1.2.1)
-nothing_held plan (e ∷ h) b r = nothing_held plan h b r.0
-
-pub are_free : (plan : Plan) (h : List Event) → IsBuilt plan → Run plan h → AreFree plan (state plan h)
-are_free plan h b r =
-    let held = nothing_held plan h b r in
-    record { install = λ node is. held.install (node_place plan.settings node); forward = λ node is. held.forward (node_place plan.settings node) }
 
 -- ---- what a host whose installs are held knows
 

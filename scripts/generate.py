@@ -3,8 +3,8 @@
 and N.trace for N from 0 on.
 
 Use: generate.py FOLDER COUNT SEED
-The scenarios are of the kinds of items that the program takes so far: networks, VMs, rules, routes, what deletes these, sends and waits, on up
-to seven hosts and eight gateways, with settings of all kinds. About half of the packets are of the flow of an earlier one.
+The scenarios are of the kinds of items that the program takes so far: networks, VMs, rules, routes, what deletes these, sends, waits, holds and
+frees, on up to seven hosts and eight gateways, with settings of all kinds. About half of the packets are of the flow of an earlier one.
 """
 
 import os
@@ -51,6 +51,10 @@ def scenario_of(draw):
     for _ in range(draw.randrange(1, 5)):
         items.insert(draw.randrange(len(nets) + 1, len(items) + 1), draw.choice(
             ['{"do":"wait"}', '{"do":"send","frames":%d}' % draw.randrange(1, 6)]))
+    # Holds and frees stand anywhere: some are of nodes that are not there, some free what is not held, and what is left held is freed at the end.
+    for _ in range(draw.choice([0, 0, 1, 3, 6])):
+        items.insert(draw.randrange(0, len(items) + 1), f'{{"do":"{draw.choice(["hold", "hold", "free"])}",'
+                     f'"node":"{draw.choice("hhg")}{draw.randrange(0, hosts)}","what":"{draw.choice(["install", "forward"])}"}}')
     if draw.random() < 0.7:
         items.append('{"do":"send"}')
     return f'{{"hosts":{hosts},"gateways":{draw.randrange(1, 9)},{settings_of(draw)}"script":[' + ",\n".join(items) + "]}\n", vms

@@ -281,7 +281,9 @@ NOT_BUILT = "scenario: NotBuilt"
 def not_built():
     """What cannot be run yet, and what is refused before it."""
     row("tick-that-is-not-built", "The system has no clock yet.", base(TICK), capture(), said=NOT_BUILT)
-    row("hold-that-is-not-built", "No node can be held back yet.", '{"hosts":1,"gateways":2,"script":[{"do":"hold","node":"h0","what":"install"}]}', capture(), said=NOT_BUILT)
+    row("holds-freed-at-the-end", "What is still held at the end is freed before it, installs of a node before its forwarding, hosts before gateways.",
+        '{"hosts":1,"gateways":2,"script":[%s]}' % ",".join([hold("g1", "install"), hold("h0", "forward"), NET_7, hold("h0", "install"), WAIT]), capture(),
+        trace="hold 3\nwait 4\nfree 5\nfree 6\nfree 7\nannounce g1 1\ninstalled g1 1\nfinish 8")
     row("grammar-before-what-is-built", "An item that is out of range, after one that cannot be run yet.",
         '{"hosts":1,"gateways":1,"script":[{"do":"tick"},{"do":"add_net","net":0}]}', capture(), said="scenario: Range /script/1/net")
 

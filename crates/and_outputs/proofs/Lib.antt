@@ -1,0 +1,5 @@
+mod Growing
+mod Packets
+mod Following
+mod Readable
+mod Sendable

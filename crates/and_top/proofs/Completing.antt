@@ -76,6 +76,8 @@ late _ memory = absurd memory
 
 done_late : (names : Named) (old new : Disk) (before after : Stream) (fault : Fault) → Done names old new before after (Err fault) → IsLate fault
 done_late names old new before after (faults.Write which.Trace) f = tt
+done_late names old new before after (faults.Write which.Delivered) f = tt
+done_late names old new before after (faults.Write which.Underlay) f = tt
 done_late names old new before after (faults.Write which.Report) f = tt
 done_late names old new before after fault f = absurd f.1
 
@@ -144,6 +146,8 @@ no_usage faults.NoMemory e = cc
 
 pub late_status : (fault : Fault) → IsLate fault → (fault_status fault ≡ 0) ⊎ ((fault_status fault ≡ 5) ⊎ (fault_status fault ≡ 6))
 late_status (faults.Write which.Trace) late = inr (inl refl)
+late_status (faults.Write which.Delivered) late = inr (inl refl)
+late_status (faults.Write which.Underlay) late = inr (inl refl)
 late_status (faults.Write which.Report) late = inr (inl refl)
 late_status faults.NoMemory late = inr (inr refl)
 late_status fault late = absurd late

@@ -39,18 +39,6 @@ calls_two old mid new stays one more =
     let h = more.taken in
     record { number = omega (arith, a, b); read_faults = omega (arith, c, d); write_faults = omega (arith, e, f); taken = omega (arith, g, h) }
 
-pub calls_three : (old mid new : Disk) → Stays old mid → Calls 2 old mid → Calls 1 mid new → Calls 3 old new
-calls_three old mid new stays two more =
-    let a = two.number in
-    let b = more.number in
-    let c = stays.read_faults in
-    let d = more.read_faults in
-    let e = stays.write_faults in
-    let f = more.write_faults in
-    let g = stays.taken in
-    let h = more.taken in
-    record { number = omega (arith, a, b); read_faults = omega (arith, c, d); write_faults = omega (arith, e, f); taken = omega (arith, g, h) }
-
 -- ---- one read
 
 -- what the files' own clauses say of a read that did not succeed

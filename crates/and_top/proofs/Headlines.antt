@@ -1,5 +1,5 @@
 -- The replay of a plan, from what the run promises and the laws of every run; and the answers of a replay.
-use Rattle.std.proofs.Common.{◌≡◌, ℕ, List, [], ◌∷◌, ◌++◌, Result, Ok, Err, ap, ◌∙◌, subst, inr}
+use Rattle.std.proofs.Common.{◌≡◌, ◌≤◌, ℕ, List, [], ◌∷◌, ◌++◌, Result, Ok, Err, ap, refl, ◌∙◌, subst, inr, arith}
 use Rattle.and_capture.specs.declared.capture.Capture.{Capture}
 use Rattle.and_events.specs.declared.event.Event.{Event}
 use Rattle.and_events.specs.declared.plan.Plan.{Plan}
@@ -14,6 +14,8 @@ use Rattle.and_laws.proofs.Fates.{accounted}
 use Rattle.and_laws.proofs.Justified.{just}
 use Rattle.and_laws.proofs.Needs.{fresh}
 use Rattle.and_replay.specs.Slow.{AreSlow}
+use Rattle.and_outputs.specs.Delivered.{delivered}
+use Rattle.and_outputs.specs.Underlay.{underlay}
 use Rattle.and_report.specs.Report.{report}
 use Rattle.and_trace.specs.Spelling.{HaveSpellings, IsSpelled, trace}
 use Rattle.and_trace.proofs.Runs.{runs_have_spellings}
@@ -24,17 +26,17 @@ use Rattle.and_planner.proofs.Building.{planned_is_built}
 use Rattle.and_top.specs.declared.answers.Which.TheVariants as which
 use Rattle.and_top.specs.declared.answers.Fault.{Fault}
 use Rattle.and_top.specs.declared.answers.Fault.TheVariants as faults
-use Rattle.and_top.specs.Answers.{Answers, Done, Stands, Writes, trace_name}
+use Rattle.and_top.specs.Answers.{AllStand, Answers, Done, Outputs, Stands, Writes, outputs_in, trace_name, delivered_name, underlay_name}
 use Rattle.and_top.specs.Headline.{IsReplay, IsWholeRun, Ran}
 use Rattle.and_top.specs.Inputs.{ScenarioAt, CaptureAt}
 use Rattle.and_top.specs.Outside.{Calls, Stays}
-use Rattle.and_top.proofs.Failing.{calls_three}
+use Rattle.and_top.proofs.Storing.{calls_more, failed_more, stands_later}
 use Rattle.and_planner.specs.Plans.{CanPlan}
 use Rattle.and_outside.specs.Stream.{Stream}
 use Rattle.and_top.specs.Words.{Named}
 use Rattle.and_top.proofs.Only.{only_run}
 use Rattle.and_top.proofs.PlansLemmas.{can_plan}
-use Rattle.and_top.specs.Texts.{AreTexts}
+use Rattle.and_top.specs.Texts.{AreTexts, outputs_of}
 
 -- what comes before an event of a run is a run
 earlier_runs : (plan : Plan) (later earlier : List Event) → Run plan (later ++ earlier) → Run plan earlier
@@ -64,41 +66,72 @@ is_replay plan h sound run complete ordered slow spelled =
       only = only_run plan h sound run complete ordered slow;
     }
 
--- the texts of a run of the plan
+-- what a run of the plan writes
 pub texts_are : (scenario : Scenario) (capture : Capture) (plan other : Plan) (h : List Event) (texts : Texts) → plan ≡ planned scenario capture → IsSound plan → Run plan h → IsComplete plan h
-    → IsInPlainOrder plan h → AreSlow h → other ≡ plan → (HaveSpellings h → IsSpelled h) → texts.trace.items ≡ trace h → texts.report.items ≡ report other h → AreTexts scenario capture texts
-texts_are scenario capture plan other h texts is sound run complete ordered slow same spelled t r =
+    → IsInPlainOrder plan h → AreSlow h → other ≡ plan → (HaveSpellings h → IsSpelled h) → texts.trace.items ≡ trace h → texts.delivered.items ≡ delivered other h
+    → texts.underlay.items ≡ underlay other h → texts.report.items ≡ report other h → AreTexts scenario capture texts
+texts_are scenario capture plan other h texts is sound run complete ordered slow same spelled t d u r =
     record {
       history = h;
       replays = subst (λ p. IsReplay p h) is (is_replay plan h sound run complete ordered slow spelled);
       trace = t;
+      delivered = d ∙ ap (λ p. delivered p h) (same ∙ is);
+      underlay = u ∙ ap (λ p. underlay p h) (same ∙ is);
       report = r ∙ ap (λ p. report p h) (same ∙ is);
     }
 
 -- ---- the answer
 
-stands_later : (name : List ℕ) (old mid new : Disk) (text : List ℕ) → Stays old mid → Stands name mid new text → Stands name old new text
-stands_later name old mid new text stays s =
-    record { held = s.held; told = λ before told. s.told before (stays.contents name ∙ told); given = λ tells. s.given (stays.tells tells) }
+module _ (names : Named) (old mid new : Disk) (o : Outputs) (stays : Stays old mid) (two : Calls 2 old mid) where
+  no_less : old.write_faults ≤ mid.write_faults
+  no_less = omega (arith, stays.write_faults)
 
--- what was written after the reads
-written : (name : List ℕ) (old mid new : Disk) (before after : Stream) (trace report : List ℕ) (result : Result (Unit {0}) Fault) → Stays old mid → Calls 2 old mid
-    → Writes 1 name mid new before after trace report result → Writes 3 name old new before after trace report result
-written name old mid new before after trace report (Ok done) stays two w = (calls_three old mid new stays two w.0, stands_later name old mid new trace stays w.1, w.2)
-written name old mid new before after trace report (Err (faults.Write which.Trace)) stays two w =
-    (record { call = calls_three old mid new stays two w.0.call; rose = w.0.rose }, w.1)
-written name old mid new before after trace report (Err (faults.Write which.Report)) stays two w =
-    (calls_three old mid new stays two w.0, stands_later name old mid new trace stays w.1, w.2)
-written name old mid new before after trace report (Err fault) stays two w = absurd w
+  later : (name text : List ℕ) → Stands name mid new text → Stands name old new text
+  later name text s = stands_later name old mid new text (stays.contents name) stays.tells s
+
+  all_later : AllStand names mid new o → AllStand names old new o
+  all_later all = record {
+    trace = later (trace_name names) o.trace all.trace;
+    delivered = later (delivered_name names) o.delivered all.delivered;
+    underlay = later (underlay_name names) o.underlay all.underlay;
+  }
+
+  -- what was written after the reads
+  written : (before after : Stream) (result : Result (Unit {0}) Fault) → Writes 1 names mid new before after o result → Writes 3 names old new before after o result
+  written before after (Ok done) w = (calls_more 2 3 old mid new stays.read_faults no_less stays.taken two w.0, all_later w.1, w.2)
+  written before after (Err (faults.Write which.Trace)) w = (
+    failed_more 2 1 old mid new stays.read_faults no_less stays.taken two w.0,
+    w.1 ∙ stays.contents (delivered_name names),
+    w.2 ∙ stays.contents (underlay_name names),
+    w.3,
+  )
+  written before after (Err (faults.Write which.Delivered)) w = (
+    failed_more 2 2 old mid new stays.read_faults no_less stays.taken two w.0,
+    later (trace_name names) o.trace w.1,
+    w.2 ∙ stays.contents (underlay_name names),
+    w.3,
+  )
+  written before after (Err (faults.Write which.Underlay)) w = (
+    failed_more 2 3 old mid new stays.read_faults no_less stays.taken two w.0,
+    later (trace_name names) o.trace w.1,
+    later (delivered_name names) o.delivered w.2,
+    w.3,
+  )
+  written before after (Err (faults.Write which.Report)) w = (calls_more 2 3 old mid new stays.read_faults no_less stays.taken two w.0, all_later w.1, w.2)
+  written before after (Err fault) w = absurd w
+
+same_outputs : (t t' d d' u u' r r' : List ℕ) → t ≡ t' → d ≡ d' → u ≡ u' → r ≡ r' → let old : Outputs = record { trace = t; delivered = d; underlay = u; report = r } in
+    let new : Outputs = record { trace = t'; delivered = d'; underlay = u'; report = r' } in old ≡ new
+same_outputs t t' d d' u u' r r' et ed eu er = rw (et, ed, eu, er) refl
 
 answer_done : (names : Named) (old new : Disk) (before after : Stream) (result : Result (Unit {0}) Fault) → Done names old new before after result → Answers names old new before after result
 answer_done names old new before after (Ok done) d = d
 answer_done names old new before after (Err fault) d = inr d
 
-pub answers : (names : Named) (old mid new : Disk) (before after : Stream) (scenario : Scenario) (capture : Capture) (texts : Texts) (name : List ℕ) (result : Result (Unit {0}) Fault)
-    → Stays old mid → Calls 2 old mid → ScenarioAt old names.scenario scenario → CaptureAt old names.capture capture → AreTexts scenario capture texts → name ≡ trace_name names
-    → Writes 1 name mid new before after texts.trace.items texts.report.items result → Answers names old new before after result
-answers names old mid new before after scenario capture texts name result stays two at_scenario at_capture are name_is w =
+pub answers : (names : Named) (old mid new : Disk) (before after : Stream) (scenario : Scenario) (capture : Capture) (texts : Texts) (result : Result (Unit {0}) Fault)
+    → Stays old mid → Calls 2 old mid → ScenarioAt old names.scenario scenario → CaptureAt old names.capture capture → AreTexts scenario capture texts
+    → Writes 1 names mid new before after (outputs_of texts) result → Answers names old new before after result
+answers names old mid new before after scenario capture texts result stays two at_scenario at_capture are w =
     let can : CanPlan scenario capture = can_plan at_scenario.bytes at_capture.bytes scenario capture at_scenario.text at_capture.reads in
     let ran : Ran names old = record {
       scenario = scenario;
@@ -110,10 +143,5 @@ answers names old mid new before after scenario capture texts name result stays 
       history = are.history;
       replays = are.replays;
     } in
-    let now : Writes 3 name old new before after texts.trace.items texts.report.items result = written name old mid new before after texts.trace.items texts.report.items result stays two w in
-    answer_done names old new before after result (
-      ran,
-      subst (λ n. Writes 3 n old new before after (trace are.history) (report (planned scenario capture) are.history) result) name_is
-          (subst (λ t. Writes 3 name old new before after t (report (planned scenario capture) are.history) result) are.trace
-          (subst (λ r. Writes 3 name old new before after texts.trace.items r result) are.report now)),
-    )
+    let same : outputs_of texts ≡ outputs_in names old ran = same_outputs _ _ _ _ _ _ _ _ are.trace are.delivered are.underlay are.report in
+    answer_done names old new before after result (ran, subst (λ o. Writes 3 names old new before after o result) same (written names old mid new (outputs_of texts) stays two before after result w))

@@ -4,5 +4,6 @@ pub mod Failing
 pub mod PlansLemmas
 pub mod Puts
 pub mod Refusing
+pub mod Storing
 pub mod Headlines
 pub mod Only

@@ -12,6 +12,8 @@ use Rattle.and_events.specs.Planned.{planned}
 use Rattle.and_events.specs.Run.{Run}
 use Rattle.and_events.specs.Sound.{IsSound, IsBuilt}
 use Rattle.and_laws.specs.Fates.{HasOneFate, IsAccounted}
+use Rattle.and_outputs.specs.Delivered.{delivered}
+use Rattle.and_outputs.specs.Underlay.{underlay}
 use Rattle.and_replay.specs.Slow.{AreSlow}
 use Rattle.and_report.specs.Report.{report}
 use Rattle.and_trace.specs.Spelling.{IsSpelled, trace}
@@ -51,9 +53,15 @@ pub record Ran (names : Named) (files : Disk) : Type 0 where
   pub history : List Event
   pub replays : IsReplay (planned scenario capture) history
 
--- its trace, and its report
+-- its trace; the frames that it delivered, as the input capture has them; the packets that it sent over the underlay; and its report
 abbrev pub trace_in : (names : Named) (files : Disk) → Ran names files → List ℕ
 trace_in names files ran = trace ran.history
+
+abbrev pub delivered_in : (names : Named) (files : Disk) → Ran names files → List ℕ
+delivered_in names files ran = delivered (planned ran.scenario ran.capture) ran.history
+
+abbrev pub underlay_in : (names : Named) (files : Disk) → Ran names files → List ℕ
+underlay_in names files ran = underlay (planned ran.scenario ran.capture) ran.history
 
 abbrev pub report_in : (names : Named) (files : Disk) → Ran names files → List ℕ
 report_in names files ran = report (planned ran.scenario ran.capture) ran.history

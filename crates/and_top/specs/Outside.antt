@@ -1,5 +1,5 @@
 -- What a call leaves of files, and how a read or a write of it can fail.
-use Rattle.std.specs.Prelude.{◌≡◌, ◌≤◌, ◌<◌, ◌⊎◌, ℕ, List, true, length, Option, Some}
+use Rattle.std.specs.Prelude.{◌≡◌, ◌≢◌, ◌≤◌, ◌<◌, ◌⊎◌, ℕ, List, true, length, Option, Some}
 use Rattle.and_outside.specs.Causes.{Rose, RoseBy, raised}
 use Rattle.and_outside.specs.Disk.{Disk}
 
@@ -9,6 +9,15 @@ pub record Stays (old new : Disk) : Type 0 where
   pub calm : old.calm ≡ true → new.calm ≡ true
   pub tells : old.tells ≡ true → new.tells ≡ true
   pub write_faults : new.write_faults ≡ old.write_faults
+  pub read_faults : old.read_faults ≤ new.read_faults
+  pub taken : old.taken ≤ new.taken
+
+-- no other file was written, and no count of files falls
+pub record LeavesOthers (name : List ℕ) (old new : Disk) : Type 0 where
+  pub others : (other : List ℕ) → other ≢ name → new.content other ≡ old.content other
+  pub calm : old.calm ≡ true → new.calm ≡ true
+  pub tells : old.tells ≡ true → new.tells ≡ true
+  pub write_faults : old.write_faults ≤ new.write_faults
   pub read_faults : old.read_faults ≤ new.read_faults
   pub taken : old.taken ≤ new.taken
 

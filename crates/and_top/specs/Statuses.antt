@@ -152,6 +152,8 @@ pub record MustRefuseCapture (names : Named) (old new : Disk) : Type 0 where
 abbrev pub IsLate : Fault → Type 0
 IsLate faults.NoMemory = Unit {0}
 IsLate (faults.Write which.Trace) = Unit {0}
+IsLate (faults.Write which.Delivered) = Unit {0}
+IsLate (faults.Write which.Underlay) = Unit {0}
 IsLate (faults.Write which.Report) = Unit {0}
 IsLate _ = ⊥
 

@@ -4,7 +4,7 @@ ghost use Rattle.and_top.specs.Telling.{Tells};
 ghost use Rattle.and_top.specs.Pieces.{text_of};
 ghost use Rattle.and_top.specs.Words.{Named, command_of};
 ghost use Rattle.and_top.specs.Names.{named};
-ghost use Rattle.and_top.specs.Answers.{Answers, Leaves, names_in, trace_name};
+ghost use Rattle.and_top.specs.Answers.{Answers, Leaves, names_in};
 ghost use Rattle.and_top.specs.Statuses.{Replayed, CanComplete, IsLate, MustRefuseScenario, MustRefuseCapture, RefusesScenario, RefusesCapture, fault_status, fault_line, scenario_line, capture_line, capture_text, place_in, file_name, usage_text};
 
 use crate::answers::{Fault, Job, Which};
@@ -40,7 +40,7 @@ fn run<F: Files, O: Sink>(
     files: &mut F,
     out: &mut O,
 ) -> Result<(), Fault>
-    ensures leaves { Leaves (trace_name (named names.now)) (F.disk files.old) (F.disk files.new) }
+    ensures leaves { Leaves (named names.now) (F.disk files.old) (F.disk files.new) }
     ensures answer { Answers (named names.now) (F.disk files.old) (F.disk files.new)
         (O.stream out.old) (O.stream out.new) result }
     ensures complete { CanComplete (named names.now) (F.disk files.old) (F.disk files.new) → IfErr result IsLate }
@@ -193,7 +193,7 @@ pub fn andromeda<F: Files, O: Sink, E: Sink>(
     err: &mut E,
 ) -> u8
     ensures leaves { (names : Named) → command_of (map string_bytes words.now) ≡ Some names
-        → Leaves (trace_name names) (F.disk files.old) (F.disk files.new) }
+        → Leaves names (F.disk files.old) (F.disk files.new) }
     ensures usage { (result ≡ 1) ↔ (command_of (map string_bytes words.now) ≡ None) }
     ensures no_command { command_of (map string_bytes words.now) ≡ None → (files.new ≡ files.old) × (out.new ≡ out.old)
         × Tells 3 usage_text (E.stream err.old) (E.stream err.new) }

@@ -1,9 +1,9 @@
-//! The top call: from command words, a scenario and a capture to the trace and the report.
+//! The top call: from command words, a scenario and a capture to the trace, the two captures and the report.
 //!
 //! [`andromeda`] does what the words of a command line say. Its clause is the promise of the program, over all files and sinks and of each
 //! content that they tell: what the trace's file holds after a replay is the trace of a run of the plan to its end, in which each packet has
-//! exactly one fate, for its reason.
-//! It stands on the crates of each part: the reading of scenarios and captures, the run, and the two texts.
+//! exactly one fate, for its reason; the two captures hold the frames that this run delivered, unchanged, and the packets that it sent over the underlay.
+//! It stands on the crates of each part: the reading of scenarios and captures, the run, and the four texts.
 #![tactic(auto)]
 
 mod answers;

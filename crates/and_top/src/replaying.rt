@@ -1,9 +1,12 @@
 //! The replay of a scenario and the frames of a capture.
-ghost use Rattle.std.specs.Prelude.{◌≡◌, IfOk, IfErr, OnOk, string_bytes};
-ghost use Rattle.and_top.specs.Outside.{Calls, Stays};
+ghost use Rattle.std.specs.Prelude.{IfOk, IfErr, OnOk};
+ghost use Rattle.std.specs.Bool.{OnTrue, OnFalse};
+ghost use Rattle.and_top.specs.Outside.{Calls, Stays, LeavesOthers, WriteFailed};
 ghost use Rattle.and_top.specs.Inputs.{ScenarioAt, CaptureAt, Refuses};
 ghost use Rattle.and_top.specs.Statuses.{CanComplete, IsLate, MustRefuseScenario, MustRefuseCapture, RefusesScenario, RefusesCapture};
-ghost use Rattle.and_top.specs.Answers.{Answers, Leaves, Writes, names_in, trace_name};
+ghost use Rattle.and_top.specs.Answers.{Answers, Leaves, Stands, Writes, names_in};
+ghost use Rattle.and_top.specs.Texts.{AreNames, outputs_of};
+ghost use Rattle.and_top.specs.Words.{Named};
 
 use crate::answers::{Fault, Job, Which};
 use crate::inputs::{capture_in, scenario_in};
@@ -12,7 +15,7 @@ use crate::texts::{Texts, texts_of};
 use and_capture::Capture;
 use and_events::Scenario;
 use and_outside::{Files, Sink};
-use std::alloc::Global;
+use std::alloc::{AllocError, Global};
 
 /// The scenario and the capture of the job's files, the scenario first.
 fn read_both<F: Files>(
@@ -31,31 +34,54 @@ fn read_both<F: Files>(
     Ok((scenario, capture))
 }
 
-/// The name of the trace's file.
-fn trace_file(alloc: Global, job: &Job) -> Result<String, Fault>
-    ensures name { IfOk result (λ name. string_bytes name ≡ trace_name (names_in job.now)) }
-    ensures memory { IfErr result (λ e. e ≡ Fault.NoMemory) }
-{
-    let out = &job.out;
-    match format!(in alloc; "{out}.trace") {
-        Ok(name) => Ok(name),
-        Err(_) => Err(Fault::NoMemory),
-    }
+/// The names of the files that are written.
+#[derive(Drop)]
+struct Written {
+    trace: String,
+    delivered: String,
+    underlay: String,
 }
 
-/// Writes the trace, and then puts the report.
+/// The names of the files that a job writes.
+fn written_names(alloc: Global, out: &str) -> Result<Written, AllocError>
+    ensures names { IfOk result (λ written. AreNames out.now written) }
+{
+    Ok(Written {
+        trace: format!(in alloc; "{out}.trace")?,
+        delivered: format!(in alloc; "{out}.delivered.pcap")?,
+        underlay: format!(in alloc; "{out}.underlay.pcap")?,
+    })
+}
+
+/// Writes one file, and says whether that was done.
+fn write<F: Files>(files: &mut F, name: &str, bytes: &[u8]) -> bool
+    ensures done { OnTrue result (Stands name.now (F.disk files.old) (F.disk files.new) bytes.now) }
+    ensures failed { OnFalse result (WriteFailed 1 (F.disk files.old) (F.disk files.new)) }
+    ensures call { Calls 1 (F.disk files.old) (F.disk files.new) }
+    ensures leaves { LeavesOthers name.now (F.disk files.old) (F.disk files.new) }
+{
+    files.write(name, bytes).is_ok()
+}
+
+/// Writes the trace, the capture of what was delivered and that of the underlay, and then puts the report.
 fn write_texts<F: Files, O: Sink>(
-    name: &str,
+    names: &Written,
     texts: &Texts,
     files: &mut F,
     out: &mut O,
 ) -> Result<(), Fault>
-    ensures leaves { Leaves name.now (F.disk files.old) (F.disk files.new) }
-    ensures writes { Writes 1 name.now (F.disk files.old) (F.disk files.new)
-        (O.stream out.old) (O.stream out.new) texts.now.trace.items texts.now.report.items result }
+    ensures leaves { (job : Named) → AreNames job.out names.now → Leaves job (F.disk files.old) (F.disk files.new) }
+    ensures writes { (job : Named) → AreNames job.out names.now → Writes 1 job (F.disk files.old) (F.disk files.new)
+        (O.stream out.old) (O.stream out.new) (outputs_of texts.now) result }
 {
-    if files.write(name, &texts.trace).is_err() {
+    if !write(files, names.trace.as_str(), &texts.trace) {
         return Err(Fault::Write(Which::Trace));
+    }
+    if !write(files, names.delivered.as_str(), &texts.delivered) {
+        return Err(Fault::Write(Which::Delivered));
+    }
+    if !write(files, names.underlay.as_str(), &texts.underlay) {
+        return Err(Fault::Write(Which::Underlay));
     }
     if put(out, &texts.report) {
         Ok(())
@@ -71,20 +97,23 @@ fn work<F: Files, O: Sink>(
     files: &mut F,
     out: &mut O,
 ) -> Result<(), Fault>
-    ensures leaves { Leaves (trace_name (names_in job.now)) (F.disk files.old) (F.disk files.new) }
+    ensures leaves { Leaves (names_in job.now) (F.disk files.old) (F.disk files.new) }
     ensures answer { Answers (names_in job.now) (F.disk files.old) (F.disk files.new)
         (O.stream out.old) (O.stream out.new) result }
 {
     let (scenario, capture) = read_both(alloc, job, files)?;
-    let name = trace_file(alloc, job)?;
+    let Ok(names) = written_names(alloc, job.out.as_str()) else {
+        return Err(Fault::NoMemory);
+    };
     let Ok(texts) = texts_of(alloc, scenario, capture, job.turns) else {
         return Err(Fault::NoMemory);
     };
-    write_texts(name.as_str(), &texts, files, out)
+    write_texts(&names, &texts, files, out)
 }
 
-/// Replays the job's scenario over the frames of its capture: writes the trace of the run into the file `OUT.trace`, and
-/// then puts the report into the sink. The first failure in that order is answered, and no file is written before both texts stand.
+/// Replays the job's scenario over the frames of its capture: writes the trace of the run into the file `OUT.trace`, the capture of the
+/// frames that were delivered into `OUT.delivered.pcap` and that of the packets of the underlay into `OUT.underlay.pcap`, and then puts
+/// the report into the sink. The first failure in that order is answered, and no file is written before all four texts stand.
 ///
 /// Each packet of the plan has exactly one fate in the history that the trace spells, for its reason, and by decisions no older
 /// than what was installed when it was taken: that is what [`Ok`] and the faults of the writes say, of the contents of files and of
@@ -99,7 +128,7 @@ pub fn replay<F: Files, O: Sink>(
     files: &mut F,
     out: &mut O,
 ) -> Result<(), Fault>
-    ensures leaves { Leaves (trace_name (names_in job.now)) (F.disk files.old) (F.disk files.new) }
+    ensures leaves { Leaves (names_in job.now) (F.disk files.old) (F.disk files.new) }
     ensures answer { Answers (names_in job.now) (F.disk files.old) (F.disk files.new)
         (O.stream out.old) (O.stream out.new) result }
     ensures complete { CanComplete (names_in job.now) (F.disk files.old) (F.disk files.new) → IfErr result IsLate }

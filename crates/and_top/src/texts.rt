@@ -1,4 +1,4 @@
-//! The texts of a replay: its trace and its report.
+//! What a replay writes: its trace, its two captures and its report.
 ghost use Rattle.std.specs.Prelude.{IfOk};
 ghost use Rattle.and_planner.specs.Plans.{CanPlan};
 ghost use Rattle.and_planner.specs.Scenarios.{IsBuiltScenario};
@@ -6,6 +6,7 @@ ghost use Rattle.and_top.specs.Texts.{AreTexts};
 
 use and_capture::Capture;
 use and_events::Scenario;
+use and_outputs::{delivered_capture, underlay_capture};
 use and_planner::plan;
 use and_policy::NoMemory;
 use and_replay::{Turns, replay_run};
@@ -18,6 +19,10 @@ use std::alloc::Global;
 pub(crate) struct Texts {
     /// The trace.
     pub(crate) trace: Vec<u8>,
+    /// The capture of the frames that were delivered.
+    pub(crate) delivered: Vec<u8>,
+    /// The capture of the packets of the underlay.
+    pub(crate) underlay: Vec<u8>,
     /// The report.
     pub(crate) report: Vec<u8>,
 }
@@ -36,6 +41,13 @@ pub(crate) fn texts_of(
     let plan = plan(alloc, scenario, capture)?;
     let book = replay_run(alloc, plan, turns)?;
     let trace = print_trace(alloc, book.lines())?;
+    let delivered = delivered_capture(alloc, book.plan(), book.lines())?;
+    let underlay = underlay_capture(alloc, book.plan(), book.lines())?;
     let report = report_text(alloc, book.plan(), book.lines())?;
-    Ok(Texts { trace, report })
+    Ok(Texts {
+        trace,
+        delivered,
+        underlay,
+        report,
+    })
 }

@@ -1,8 +1,10 @@
-use Rattle.std.proofs.Common.{◌≡◌, refl, rules, inl}
+use Rattle.std.proofs.Common.{refl, subst, inl}
 use Rattle.std.proofs.lemmas.Result.{err_from_is_err_and}
-use Rattle.and_top.specs.Answers.{names_in, trace_name}
+use Rattle.and_top.specs.Answers.{names_in}
+use Rattle.and_top.specs.Texts.{AreNames}
 use Rattle.and_top.proofs.Headlines.{answers}
 use Rattle.and_top.proofs.PlansLemmas.{can_plan}
+use Rattle.and_top.proofs.Storing.{leaves_later}
 use Rattle.and_top.proofs.replaying.work.Goals as goal
 
 pub texts_of-requires-clause-can : goal.texts_of-requires-clause-can
@@ -17,6 +19,12 @@ returns-in_err-scenario-clause-answer g c =
 
 pub returns-clause-answer : goal.returns-clause-answer
 returns-clause-answer g c =
-    let name_is : c.as_str.result.now ≡ trace_name (names_in c.args.job.now) = search rules in
-    answers _ _ _ _ _ _ c.in_ok-scenario.scenario c.in_ok-scenario.capture c.in-Ok.texts c.as_str.result.now c.write_texts.result
-    c.in_ok-scenario.ensures.stays c.in_ok-scenario.ensures.calls c.in_ok-scenario.ensures.scenario c.in_ok-scenario.ensures.capture c.in-Ok.ensures name_is c.write_texts.ensures.writes
+    let named : AreNames (names_in c.args.job.now).out c.in-Ok.names = subst (λ out. AreNames out c.in-Ok.names) c.as_str.ensures.value c.in-Ok.ensures.names in
+    answers (names_in c.args.job.now) _ _ _ _ _ c.in_ok-scenario.scenario c.in_ok-scenario.capture c.in-Ok-texts_of.texts c.write_texts.result
+    c.in_ok-scenario.ensures.stays c.in_ok-scenario.ensures.calls c.in_ok-scenario.ensures.scenario c.in_ok-scenario.ensures.capture c.in-Ok-texts_of.ensures
+    (c.write_texts.ensures.writes (names_in c.args.job.now) named)
+
+pub returns-clause-leaves : goal.returns-clause-leaves
+returns-clause-leaves g c =
+    let named : AreNames (names_in c.args.job.now).out c.in-Ok.names = subst (λ out. AreNames out c.in-Ok.names) c.as_str.ensures.value c.in-Ok.ensures.names in
+    leaves_later (names_in c.args.job.now) _ _ _ c.in_ok-scenario.ensures.stays (c.write_texts.ensures.leaves (names_in c.args.job.now) named)

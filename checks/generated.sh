@@ -1,5 +1,5 @@
 #!/usr/bin/env bash
-# 300 generated scenarios (scripts/generate.py, seeded) give the report and the trace that the model composes for them, and the plain program
+# 300 generated scenarios (scripts/generate.py, seeded) give the report, the trace and both captures that the model composes for them, and the plain program
 # judges each trace legal, complete, in the plain order, just and fresh. They go to a folder beside the program that is no part of the repository.
 set -u
 cd "$(dirname "$0")/.." || exit 1
@@ -14,8 +14,11 @@ for number in $(seq 0 299); do
   "$program" replay "$work/$number.json" "$work/$number.pcap" "$work/got" >"$work/got.report" || { echo "failed: scenario $number"; exit 1; }
   diff "$work/$number.report" "$work/got.report" || { echo "failed: the report of scenario $number differs"; exit 1; }
   diff "$work/$number.trace" "$work/got.trace" || { echo "failed: the trace of scenario $number differs"; exit 1; }
+  for kind in delivered underlay; do
+    cmp "$work/$number.$kind.pcap" "$work/got.$kind.pcap" || { echo "failed: the $kind capture of scenario $number differs"; exit 1; }
+  done
   traces+=("$work/$number.json" "$work/$number.pcap" "$work/$number.trace")
 done
 "$judge" judge "${traces[@]}" >"$work/judged" || { echo "failed: the plain program refuses a trace"; grep "is judged" "$work/judged"; exit 1; }
 [ "$(grep -c "is legal, complete, in the plain order, just and fresh$" "$work/judged")" = 300 ] || { echo "failed: not every trace is judged"; exit 1; }
-echo "passed: 300 generated scenarios give the reports and traces that the model composes, and the plain program finds them right"
+echo "passed: 300 generated scenarios give the reports, traces and captures that the model composes, and the plain program finds them right"

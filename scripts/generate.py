@@ -95,7 +95,8 @@ def main():
         capture = capture_of(draw, vms)
         run = model.replay(scenario.encode(), capture)
         packets += len(run.plan.packets)
-        texts = {"json": scenario.encode(), "pcap": capture, "report": model.report(run).encode(), "trace": model.trace(run).encode()}
+        texts = {"json": scenario.encode(), "pcap": capture, "report": model.report(run).encode(), "trace": model.trace(run).encode(),
+                 "delivered.pcap": model.delivered_capture(run), "underlay.pcap": model.underlay_capture(run)}
         for kind, data in texts.items():
             with open(os.path.join(folder, f"{number}.{kind}"), "wb") as file:
                 file.write(data)

@@ -1,0 +1,31 @@
+#!/usr/bin/env bash
+# Both captures that a replay of each example writes: the frames in the underlay's packets are the sent frames and those of the other capture are the delivered
+# ones as they were captured, by a reader of Python's own (scripts/captures.py); and tshark and tcpdump, where they are installed, open both without an option
+# and find VXLAN in each packet of the underlay.
+set -u
+cd "$(dirname "$0")/.." || exit 1
+program=crates/andromeda/out/andromeda
+[ -x "$program" ] || { echo "skipped: $program is not built"; exit 0; }
+command -v python3 >/dev/null || { echo "skipped: python3 is not installed"; exit 0; }
+work=$(mktemp -d) || exit 1
+trap 'rm -rf "$work"' EXIT
+failed() { echo "failed: $1"; exit 1; }
+
+for example in "two-vms hundred-frames" "three-hosts traffic"; do
+  read -r folder capture <<<"$example"
+  of=("examples/$folder/scenario.json" "examples/$folder/$capture.pcap")
+  out=$work/$folder
+  "$program" replay "${of[@]}" "$out" >/dev/null || failed "the replay of $folder"
+  python3 scripts/captures.py "${of[@]}" "$out" || failed "the captures of $folder"
+  for file in "$out.delivered.pcap" "$out.underlay.pcap"; do
+    for tool in tshark tcpdump; do
+      command -v "$tool" >/dev/null || { echo "skipped: $tool is not installed"; continue; }
+      "$tool" -n -r "$file" >"$work/lines" 2>"$work/errors" || failed "$tool cannot open $file"
+      [ -s "$work/lines" ] || failed "$tool finds nothing in $file"
+    done
+  done
+  command -v tshark >/dev/null || continue
+  tshark -n -r "$out.underlay.pcap" -T fields -e frame.protocols >"$work/protocols" 2>/dev/null || failed "tshark"
+  ! grep -v 'ip:udp:vxlan:eth' "$work/protocols" || failed "a packet of the underlay of $folder is no VXLAN for tshark"
+done
+echo "passed: both captures of each example hold the frames that were sent and delivered"

@@ -72,42 +72,18 @@ fn is_done_by(step: Option<Step>, event: &Event) -> bool
         return false;
     };
     match *event {
-        Event::Append { .. } => match step {
-            Step::Append(_) => true,
-            _ => false,
-        },
-        Event::Review { .. } => match step {
-            Step::Review => true,
-            _ => false,
-        },
-        Event::Hold { .. } => match step {
-            Step::Hold { .. } => true,
-            _ => false,
-        },
-        Event::Free { .. } => match step {
-            Step::Free { .. } => true,
-            _ => false,
-        },
-        Event::Wait { .. } => match step {
-            Step::Wait => true,
-            _ => false,
-        },
+        Event::Append { .. } => matches!(step, Step::Append(_)),
+        Event::Review { .. } => matches!(step, Step::Review),
+        Event::Hold { .. } => matches!(step, Step::Hold { .. }),
+        Event::Free { .. } => matches!(step, Step::Free { .. }),
+        Event::Wait { .. } => matches!(step, Step::Wait),
         Event::Inject { packet, .. } => match step {
             Step::Inject { packet: given } => given == packet,
             _ => false,
         },
-        Event::Blackout { .. } => match step {
-            Step::Blackout { .. } => true,
-            _ => false,
-        },
-        Event::Resume { .. } => match step {
-            Step::Resume { .. } => true,
-            _ => false,
-        },
-        Event::Finish { .. } => match step {
-            Step::Finish => true,
-            _ => false,
-        },
+        Event::Blackout { .. } => matches!(step, Step::Blackout { .. }),
+        Event::Resume { .. } => matches!(step, Step::Resume { .. }),
+        Event::Finish { .. } => matches!(step, Step::Finish),
         Event::Announce { .. }
         | Event::Installed { .. }
         | Event::Take { .. }

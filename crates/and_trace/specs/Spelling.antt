@@ -148,6 +148,16 @@ rest_of (events.Redirect a i at back) = actor_word a ∷ Number i ∷ Number at 
 rest_of (events.Ingress a i at way arrival) = actor_word a ∷ Number i ∷ Number at ∷ way_word way ∷ arrival_words arrival
 rest_of (events.Unpin host vm) = AtHost host ∷ Number vm ∷ []
 
+-- the event takes a packet, or is what became of one in hand
+abbrev pub MovesPacket : Event → Type 0
+MovesPacket (events.Take a q i) = Unit {0}
+MovesPacket (events.Egress a i at way d) = Unit {0}
+MovesPacket (events.Sealed a i end) = Unit {0}
+MovesPacket (events.Route a i at p) = Unit {0}
+MovesPacket (events.Redirect a i at back) = Unit {0}
+MovesPacket (events.Ingress a i at way arrival) = Unit {0}
+MovesPacket _ = ⊥
+
 -- a word with one space before it
 abbrev pub spaced : Word → List ℕ
 spaced w = 32 ∷ spelling w

@@ -4,7 +4,7 @@ ghost use Rattle.std.specs.List.{flat_map};
 ghost use Rattle.and_policy.specs.declared.decision.Name.{Name};
 ghost use Rattle.and_events.specs.Run.{past};
 ghost use Rattle.and_trace.specs.Spelling as spells;
-ghost use Rattle.and_trace.specs.Spelling.{spaced, HaveSpellings, IsSpelled};
+ghost use Rattle.and_trace.specs.Spelling.{spaced, MovesPacket, HaveSpellings, IsSpelled};
 ghost use Rattle.and_trace.specs.Grammar.{IsShort, AreShort, Spells};
 
 use crate::put::{put, put_words};
@@ -391,23 +391,12 @@ fn put_install(node: Node, upto: u32, text: &mut Vec<u8>) -> Result<(), NoMemory
     put_words(&[node_word(node), Word::Number(upto)], text)
 }
 
-// The words after the first.
-fn put_rest(event: &Event, text: &mut Vec<u8>) -> Result<(), NoMemory>
-    ensures text { OnOk result (text.new.items ≡ text.old.items ++ flat_map spaced (spells.rest_of event.now)) }
-    ensures fits { AreShort (spells.rest_of event.now) }
+// The words after the first of an event that moves a packet.
+fn put_moved(event: &Event, text: &mut Vec<u8>) -> Result<(), NoMemory>
+    ensures text { MovesPacket event.now → OnOk result (text.new.items ≡ text.old.items ++ flat_map spaced (spells.rest_of event.now)) }
+    ensures fits { MovesPacket event.now → AreShort (spells.rest_of event.now) }
 {
     match *event {
-        Event::Append { step } => put_step(step, text),
-        Event::Review { step } => put_step(step, text),
-        Event::Hold { step } => put_step(step, text),
-        Event::Free { step } => put_step(step, text),
-        Event::Wait { step } => put_step(step, text),
-        Event::Blackout { step } => put_step(step, text),
-        Event::Resume { step } => put_step(step, text),
-        Event::Finish { step } => put_step(step, text),
-        Event::Inject { step, packet, full } => put_inject(step, packet, full, text),
-        Event::Announce { node, upto } => put_install(node, upto, text),
-        Event::Installed { node, upto } => put_install(node, upto, text),
         Event::Take {
             actor,
             queue,
@@ -440,7 +429,29 @@ fn put_rest(event: &Event, text: &mut Vec<u8>) -> Result<(), NoMemory>
             way,
             arrival,
         } => put_ingress(actor, packet, at, way, arrival, text),
+        _ => Ok(()),
+    }
+}
+
+// The words after the first.
+fn put_rest(event: &Event, text: &mut Vec<u8>) -> Result<(), NoMemory>
+    ensures text { OnOk result (text.new.items ≡ text.old.items ++ flat_map spaced (spells.rest_of event.now)) }
+    ensures fits { AreShort (spells.rest_of event.now) }
+{
+    match *event {
+        Event::Append { step } => put_step(step, text),
+        Event::Review { step } => put_step(step, text),
+        Event::Hold { step } => put_step(step, text),
+        Event::Free { step } => put_step(step, text),
+        Event::Wait { step } => put_step(step, text),
+        Event::Blackout { step } => put_step(step, text),
+        Event::Resume { step } => put_step(step, text),
+        Event::Finish { step } => put_step(step, text),
+        Event::Inject { step, packet, full } => put_inject(step, packet, full, text),
+        Event::Announce { node, upto } => put_install(node, upto, text),
+        Event::Installed { node, upto } => put_install(node, upto, text),
         Event::Unpin { host, vm } => put_unpin(host, vm, text),
+        _ => put_moved(event, text),
     }
 }
 

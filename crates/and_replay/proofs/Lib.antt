@@ -1,9 +1,12 @@
-pub mod Indexing
-pub mod PlainLog
-pub mod Installs
-pub mod Adding
-pub mod Decisions
-pub mod DueSteps
-pub mod InHands
-pub mod Unsealed
-pub mod Turning
+mod Rows
+mod Adding
+mod Frames
+mod Beginning
+mod LastStep
+mod Working
+mod Passing
+mod Installing
+mod Driven
+mod Others
+mod Turning
+mod Unsealed

@@ -1,20 +1,17 @@
 -- A run under way, before its first turn, over a turn, and at its end.
-use Rattle.std.proofs.Common.{◌≡◌, ℕ, zero, suc, ◌+◌, ◌<◌, ◌≤◌, List, [], ◌∷◌, length, replicate, refl, sym, ap, ◌∙◌, subst, arith, Option, Some, None, get_or, ⊎_elim, true, false}
+use Rattle.std.proofs.Common.{◌≡◌, ℕ, ◌+◌, ◌<◌, ◌≤◌, List, [], ◌∷◌, length, refl, sym, ap, ◌∙◌, subst, arith, Option, Some, None, get_or, ⊎_elim, true, false}
 use Rattle.std.specs.Prelude.{slice_get, is_some}
-use Rattle.std.specs.List.{All, fold}
+use Rattle.std.specs.List.{fold}
 use Rattle.std.proofs.lemmas.List.{length-append}
 use Rattle.std.proofs.lemmas.Option.{slice_get_cases, slice_get_within}
-use Rattle.std.proofs.lemmas.List.Elements.{All-replicate}
 use Rattle.and_events.specs.declared.event.Actor.{Actor}
 use Rattle.and_events.specs.declared.event.Event.{Event}
-use Rattle.and_events.specs.declared.event.Held.{Held}
 use Rattle.and_events.specs.declared.event.Line.{Line}
 use Rattle.and_events.specs.declared.plan.Plan.{Plan}
 use Rattle.and_events.specs.declared.plan.Step.{Step}
 use Rattle.and_events.specs.Complete.{IsComplete}
 use Rattle.and_events.specs.Legal.{Enabled}
 use Rattle.and_events.specs.Ordered.{IsFirst, IsInPlainOrder}
-use Rattle.and_events.specs.Places.{hand_count}
 use Rattle.and_events.specs.Run.{Run, past}
 use Rattle.and_events.specs.Script.{at_start}
 use Rattle.and_events.specs.Sound.{IsSound, StepsFit}
@@ -22,35 +19,33 @@ use Rattle.and_events.specs.State.{state, start}
 use Rattle.and_laws.specs.Bound.{bound}
 use Rattle.and_laws.proofs.Bounded.{run_ends}
 use Rattle.and_laws.proofs.Paying.{short_programmes}
+use Rattle.and_others.specs.Ways.{Ways}
 use Rattle.and_book.specs.Views.{BookView, now}
-use Rattle.and_replay.specs.declared.hands.InHand.{InHand}
-use Rattle.and_replay.specs.declared.index.Index.{Index}
-use Rattle.and_replay.specs.Indexes.{IsIndex}
-use Rattle.and_replay.specs.Slow.{AreSlow}
-use Rattle.and_replay.specs.Turns.{IsUnderWay, IsRight, Adds, held_in}
+use Rattle.and_replay.specs.declared.parts.Parts.{Parts}
+use Rattle.and_replay.specs.Parting.{AreParts}
+use Rattle.and_replay.specs.Turns.{IsUnderWay, Adds}
 use Rattle.and_replay.proofs.Adding.{past_after, plan_after}
-use Rattle.and_replay.proofs.DueSteps.{completes}
+use Rattle.and_replay.proofs.LastStep.{completes}
 
 -- ---- more room changes nothing of the run
 
 pub same_now : (b b' : BookView) → b'.lines ≡ b.lines → b'.plan ≡ b.plan → now b' ≡ now b
 same_now b b' lines plan = ap (λ p. state p (past b'.lines)) plan ∙ ap (λ ls. state b.plan (past ls)) lines
 
-roomy : (b : BookView) (spare : ℕ) (x : Index) (hs : List (Option InHand)) → IsUnderWay b x hs → IsUnderWay (record b { spare = spare }) x hs
-roomy b spare x hs w =
-    record { threads = w.threads; ordered = w.ordered; slow = w.slow; ends = w.ends; index = w.index; hands = w.hands; parcels = w.parcels }
+roomy : (b : BookView) (spare : ℕ) (p : Parts) → IsUnderWay b p → IsUnderWay (record b { spare = spare }) p
+roomy b spare p w = record { threads = w.threads; ordered = w.ordered; ways = w.ways; ends = w.ends; parts = w.parts }
 
-pub with_room : (b b' : BookView) (x : Index) (hs : List (Option InHand)) → b'.lines ≡ b.lines → b'.plan ≡ b.plan → b'.threads ≡ b.threads → IsUnderWay b x hs → IsUnderWay b' x hs
-with_room b b' x hs lines plan threads w =
-    subst (λ p. IsUnderWay (record { plan = p; threads = b'.threads; lines = b'.lines; spare = b'.spare }) x hs) (sym plan)
-    (subst (λ t. IsUnderWay (record { plan = b.plan; threads = t; lines = b'.lines; spare = b'.spare }) x hs) (sym threads)
-    (subst (λ ls. IsUnderWay (record { plan = b.plan; threads = b.threads; lines = ls; spare = b'.spare }) x hs) (sym lines) (roomy b b'.spare x hs w)))
+pub with_room : (b b' : BookView) (p : Parts) → b'.lines ≡ b.lines → b'.plan ≡ b.plan → b'.threads ≡ b.threads → IsUnderWay b p → IsUnderWay b' p
+with_room b b' x lines plan threads w =
+    subst (λ p. IsUnderWay (record { plan = p; threads = b'.threads; lines = b'.lines; spare = b'.spare }) x) (sym plan)
+    (subst (λ t. IsUnderWay (record { plan = b.plan; threads = t; lines = b'.lines; spare = b'.spare }) x) (sym threads)
+    (subst (λ ls. IsUnderWay (record { plan = b.plan; threads = b.threads; lines = ls; spare = b'.spare }) x) (sym lines) (roomy b b'.spare x w)))
 
 -- ---- a turn
 
-module _ (old new : BookView) (x x' : Index) (hs hs' : List (Option InHand)) (a : Actor) (sound : IsSound old.plan) (run : Run new.plan (past new.lines))
-    (way : IsUnderWay old x hs) (due : (now old).next < length old.plan.steps) (enabled : Enabled old.plan (now old) a) (first : IsFirst old.plan (now old) a)
-    (adds : Adds old new a (held_in hs')) where
+module _ (old new : BookView) (x x' : Parts) (a : Actor) (sound : IsSound old.plan) (run : Run new.plan (past new.lines))
+    (way : IsUnderWay old x) (due : (now old).next < length old.plan.steps) (enabled : Enabled old.plan (now old) a) (first : IsFirst old.plan (now old) a)
+    (adds : Adds old new a) where
   same_plan : new.plan ≡ old.plan
   same_plan = plan_after old new 0 adds.event adds.line
 
@@ -66,9 +61,9 @@ module _ (old new : BookView) (x x' : Index) (hs hs' : List (Option InHand)) (a 
     adds.number,
   )
 
-  slow_more : AreSlow (adds.event ∷ past old.lines)
-  unfolding AreSlow
-  slow_more = (way.slow, adds.slow)
+  ways_more : Ways old.plan (adds.event ∷ past old.lines)
+  unfolding Ways
+  ways_more = (way.ways, adds.way)
 
   run_more : Run old.plan (adds.event ∷ past old.lines)
   run_more = subst (λ h. Run old.plan h) one_more (subst (λ p. Run p (past new.lines)) same_plan run)
@@ -80,15 +75,13 @@ module _ (old new : BookView) (x x' : Index) (hs hs' : List (Option InHand)) (a 
   carry : (P : Plan → List Event → Type 0) → P old.plan (adds.event ∷ past old.lines) → P new.plan (past new.lines)
   carry P p = subst (λ q. P q (past new.lines)) (sym same_plan) (subst (P old.plan) (sym one_more) p)
 
-  pub turned : All (IsRight new.plan) hs' → IsIndex x' (now new).programmes.log → IsUnderWay new x' hs'
-  turned parcels index = record {
+  pub turned : AreParts new.plan (past new.lines) x' → IsUnderWay new x'
+  turned parts = record {
     threads = ap (λ (b : BookView). b.threads) adds.line ∙ way.threads;
     ordered = carry IsInPlainOrder ordered_more;
-    slow = carry (λ p h. AreSlow h) slow_more;
+    ways = carry Ways ways_more;
     ends = carry (λ p h. (state p h).next ≡ length p.steps → IsComplete p h) ends_more;
-    index = index;
-    hands = adds.hands;
-    parcels = parcels;
+    parts = parts;
   }
 
   pub one_longer : length new.lines ≡ length old.lines + 1
@@ -115,35 +108,25 @@ some_steps plan sound = some plan.steps sound.steps
     some [] f = absurd f
     some (step ∷ ss) f = omega arith
 
-abbrev no_hand : Option Held
-no_hand = None
-
-none_held : (n : ℕ) → replicate n no_hand ≡ held_in (replicate n None)
-none_held zero = refl
-none_held (suc n) = ap (λ (hs : List (Option Held)). no_hand ∷ hs) (none_held n)
-
-begun : (plan : Plan) (spare n : ℕ) (x : Index) → IsSound plan → IsIndex x [] → n ≡ hand_count plan.settings → IsUnderWay (record { plan = plan; threads = 0; lines = []; spare = spare }) x (replicate n None)
-unfolding IsInPlainOrder AreSlow state start
-begun plan spare n x sound index count = record {
+begun : (plan : Plan) (spare : ℕ) (x : Parts) → IsSound plan → AreParts plan [] x → IsUnderWay (record { plan = plan; threads = 0; lines = []; spare = spare }) x
+unfolding IsInPlainOrder Ways state start
+begun plan spare x sound parts = record {
   threads = refl;
   ordered = tt;
-  slow = tt;
+  ways = tt;
   ends = λ done. absurd (omega (arith, some_steps plan sound, done));
-  index = index;
-  hands = ap (λ m. replicate m no_hand) (sym count) ∙ none_held n;
-  parcels = All-replicate (IsRight plan) n None tt;
+  parts = parts;
 }
 
-pub begins : (b : BookView) (n : ℕ) (x : Index) (hs : List (Option InHand)) → IsSound b.plan → b.threads ≡ 0 → b.lines ≡ [] → IsIndex x [] → n ≡ hand_count b.plan.settings → hs ≡ replicate n None → IsUnderWay b x hs
-begins b n x hs sound threads lines index count is =
-    subst (λ t. IsUnderWay (record { plan = b.plan; threads = t; lines = b.lines; spare = b.spare }) x hs) (sym threads)
-    (subst (λ ls. IsUnderWay (record { plan = b.plan; threads = 0; lines = ls; spare = b.spare }) x hs) (sym lines)
-    (subst (λ ys. IsUnderWay (record { plan = b.plan; threads = 0; lines = []; spare = b.spare }) x ys) (sym is) (begun b.plan b.spare n x sound index count)))
+pub begins : (b : BookView) (x : Parts) → IsSound b.plan → b.threads ≡ 0 → b.lines ≡ [] → AreParts b.plan [] x → IsUnderWay b x
+begins b x sound threads lines parts =
+    subst (λ t. IsUnderWay (record { plan = b.plan; threads = t; lines = b.lines; spare = b.spare }) x) (sym threads)
+    (subst (λ ls. IsUnderWay (record { plan = b.plan; threads = 0; lines = ls; spare = b.spare }) x) (sym lines) (begun b.plan b.spare x sound parts))
 
 -- ---- the end
 
-pub ended : (b : BookView) (x : Index) (hs : List (Option InHand)) → Run b.plan (past b.lines) → IsUnderWay b x hs → slice_get b.plan.steps (now b).next ≡ None → IsComplete b.plan (past b.lines)
-ended b x hs r w none =
+pub ended : (b : BookView) (x : Parts) → Run b.plan (past b.lines) → IsUnderWay b x → slice_get b.plan.steps (now b).next ≡ None → IsComplete b.plan (past b.lines)
+ended b x r w none =
     ⊎_elim
     (λ (it : (step : Step) × ((now b).next < length b.plan.steps) × (slice_get b.plan.steps (now b).next ≡ Some step) × (get_or b.plan.steps (now b).next step ≡ step)).
     absurd (let clash : Some it.0 ≡ None = sym it.2 ∙ none in cc))

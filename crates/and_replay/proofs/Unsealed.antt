@@ -1,6 +1,5 @@
 -- In a run of a built plan nothing is to be sealed, so no coprocessor is ever enabled.
-use Rattle.std.proofs.Common.{◌≡◌, ℕ, ◌+◌, ◌*◌, ◌<◌, ◌≤◌, true, false, ◌&&◌, List, [], ◌∷◌, ◌++◌, drop, refl, sym, ap, ◌∙◌, subst, arith, Option, Some, None, inl, inr}
-use Rattle.std.specs.Prelude.{◌==◌, if◌then◌else◌}
+use Rattle.std.proofs.Common.{◌≡◌, ℕ, ◌+◌, ◌*◌, ◌<◌, ◌≤◌, true, false, List, [], ◌∷◌, ◌++◌, drop, refl, sym, ap, ◌∙◌, subst, arith, Option, Some, None, inl, inr}
 use Rattle.and_policy.specs.declared.decision.Dest.{Dest}
 use Rattle.and_policy.specs.declared.decision.Leaving.TheVariants as leavings
 use Rattle.and_policy.specs.declared.decision.Name.{Name}

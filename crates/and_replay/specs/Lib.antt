@@ -1,4 +1,3 @@
-pub mod Slow
-pub mod Indexes
+pub mod Rows
+pub mod Parting
 pub mod Turns
-pub mod Deciding

@@ -1,27 +1,25 @@
 //! The run.
 ghost use Rattle.std.specs.Prelude.{◌≡◌, ◌+◌, ◌<◌, ◌≤◌, length, IfOk, OnOk, is_some, slice_get};
-ghost use Rattle.std.specs.List.{All};
 ghost use Rattle.and_events.specs.Complete.{IsComplete};
 ghost use Rattle.and_events.specs.Ordered.{IsInPlainOrder};
 ghost use Rattle.and_events.specs.Run.{Run, past};
 ghost use Rattle.and_events.specs.Sound.{IsSound, IsBuilt};
-ghost use Rattle.and_events.specs.Places.{IsWorker, IsGatewayWorker};
 ghost use Rattle.and_laws.specs.Bound.{bound};
+ghost use Rattle.and_others.specs.Ways.{Ways};
 ghost use Rattle.and_book.specs.Views.{now, held};
-ghost use Rattle.and_replay.specs.Indexes.{IsIndex};
-ghost use Rattle.and_replay.specs.Slow.{AreSlow};
-ghost use Rattle.and_replay.specs.Turns.{IsNext, IsUnderWay, IsRight, Adds, held_in};
+ghost use Rattle.and_replay.specs.Parting.{AreParts};
+ghost use Rattle.and_replay.specs.Turns.{IsNext, IsUnderWay, Adds};
 
-use crate::acting::{drive, install};
-use crate::deciding::{arrive, depart, pass, take};
+use crate::acting::{drive, install_gate, install_host, pass_at, work_at};
 use crate::first::first_enabled;
-use crate::hands::Hands;
-use crate::index::Index;
+use crate::parts::Parts;
 use and_book::Book;
-use and_events::{Actor, Node, Plan, Queue, hand_place};
-use and_kept::count_hands;
+use and_events::{Actor, Plan};
 use and_policy::NoMemory;
+use and_slow::Steps;
 use std::alloc::Global;
+use std::marker::Brand;
+use std::sync::ledger::{Blank, Ledger};
 
 /// Whose turn it is.
 #[derive(Debug, Clone, Copy, PartialEq, Eq)]
@@ -30,106 +28,74 @@ pub enum Turns {
     Plain,
 }
 
-// A host worker takes a packet, or decides of the one in its hand.
-fn work(book: &mut Book, index: &Index, hands: &mut Hands, actor: Actor)
-    requires next { IsNext book.old actor }
-    requires index { IsIndex index.now (now book.old).programmes.log }
-    requires worker { IsWorker actor }
-    requires room { held book.old + 2 ≤ book.old.spare }
-    requires hands { (now book.old).flow.hands ≡ held_in hands.old }
-    requires parcels { All (IsRight book.old.plan) hands.old }
-    ensures adds { Adds book.old book.new actor (held_in hands.new) }
-    ensures parcels { All (IsRight book.new.plan) hands.new }
-    ensures log { (now book.new).programmes.log ≡ (now book.old).programmes.log }
-{
-    book.is_run();
-    let place = hand_place(book.plan().settings, actor);
-    match hands.take(place) {
-        Some(in_hand) => match in_hand.held.queue {
-            Queue::Out => depart(book, index, actor, in_hand),
-            _ => arrive(book, index, actor, in_hand),
-        },
-        None => hands.put(place, take(book, actor)),
-    }
-}
-
-// A gateway worker takes a packet, or decides of the one in its hand.
-fn route(book: &mut Book, index: &Index, hands: &mut Hands, actor: Actor)
-    requires next { IsNext book.old actor }
-    requires index { IsIndex index.now (now book.old).programmes.log }
-    requires worker { IsGatewayWorker actor }
-    requires room { held book.old + 2 ≤ book.old.spare }
-    requires hands { (now book.old).flow.hands ≡ held_in hands.old }
-    requires parcels { All (IsRight book.old.plan) hands.old }
-    ensures adds { Adds book.old book.new actor (held_in hands.new) }
-    ensures parcels { All (IsRight book.new.plan) hands.new }
-    ensures log { (now book.new).programmes.log ≡ (now book.old).programmes.log }
-{
-    book.is_run();
-    let place = hand_place(book.plan().settings, actor);
-    match hands.take(place) {
-        Some(in_hand) => pass(book, index, actor, in_hand),
-        None => hands.put(place, take(book, actor)),
-    }
-}
-
 // The actor acts.
-fn act(
+fn act<L: Ledger>(
     alloc: Global,
     book: &mut Book,
-    index: &mut Index,
-    hands: &mut Hands,
+    parts: &mut Parts,
     actor: Actor,
+    steps: &mut Steps<L>,
 ) -> Result<(), NoMemory>
     requires next { IsNext book.old actor }
-    requires index { IsIndex index.old (now book.old).programmes.log }
     requires room { held book.old + 2 ≤ book.old.spare }
-    requires hands { (now book.old).flow.hands ≡ held_in hands.old }
-    requires parcels { All (IsRight book.old.plan) hands.old }
-    ensures adds { OnOk result (Adds book.old book.new actor (held_in hands.new)) }
-    ensures parcels { OnOk result (All (IsRight book.new.plan) hands.new) }
-    ensures index { OnOk result (IsIndex index.new (now book.new).programmes.log) }
+    requires parts { AreParts book.old.plan (past book.old.lines) parts.old }
+    ensures adds { OnOk result (Adds book.old book.new actor) }
+    ensures parts { OnOk result (AreParts book.new.plan (past book.new.lines) parts.new) }
 {
     book.is_run();
     match actor {
         Actor::HostInstall(host) => {
-            install(book, Node::Host(host));
+            install_host(alloc, book, &mut parts.hosts, &mut parts.host_batches, host)?;
+            book.is_run();
             Ok(())
         }
         Actor::GateInstall(gateway) => {
-            install(book, Node::Gate(gateway));
+            install_gate(
+                alloc,
+                book,
+                &mut parts.gates,
+                &mut parts.gate_batches,
+                gateway,
+            )?;
+            book.is_run();
             Ok(())
         }
-        Actor::Worker { .. } => {
-            work(book, index, hands, actor);
+        Actor::Worker { host, index } => {
+            work_at(book, &parts.hosts, &mut parts.workers, host, index, steps);
+            book.is_run();
             Ok(())
         }
-        Actor::Gateway(_) => {
-            route(book, index, hands, actor);
+        Actor::Gateway(gateway) => {
+            pass_at(book, &parts.gates, &mut parts.hovers, gateway);
+            book.is_run();
             Ok(())
         }
-        Actor::Driver => drive(alloc, book, index),
+        Actor::Driver => {
+            drive(alloc, book)?;
+            book.is_run();
+            Ok(())
+        }
         Actor::Coproc(_) | Actor::Controller => unreachable!(),
     }
 }
 
 // One turn: the first actor that is enabled acts.
-fn turn(
+fn turn<L: Ledger>(
     alloc: Global,
     book: &mut Book,
-    index: &mut Index,
-    hands: &mut Hands,
+    parts: &mut Parts,
+    steps: &mut Steps<L>,
 ) -> Result<(), NoMemory>
-    requires way { IsUnderWay book.old index.old hands.old }
+    requires way { IsUnderWay book.old parts.old }
     requires due { (now book.old).next < length book.old.plan.steps }
-    ensures way { OnOk result (IsUnderWay book.new index.new hands.new) }
+    ensures way { OnOk result (IsUnderWay book.new parts.new) }
     ensures plan { OnOk result (book.new.plan ≡ book.old.plan) }
     ensures longer { OnOk result (length book.new.lines ≡ length book.old.lines + 1) }
     ensures bounded { OnOk result (length book.new.lines ≤ bound book.new.plan) }
 {
     book.room(alloc, 2)?;
     let actor = first_enabled(book);
-    act(alloc, book, index, hands, actor)?;
+    act(alloc, book, parts, actor, steps)?;
     book.is_run();
     Ok(())
 }
@@ -141,6 +107,30 @@ fn is_due(book: &Book) -> bool
     book.next_step().is_some()
 }
 
+// All turns. How many rules workers look at is not asked.
+fn run<L: Ledger>(alloc: Global, plan: Plan, blank: Blank) -> Result<Book, NoMemory>
+    requires name { blank.name ≡ L.name }
+    requires parts { blank.parts ≡ L.parts }
+    requires some { 0 < blank.parts }
+    requires sound { IsSound plan }
+    requires built { IsBuilt plan }
+    ensures plan { IfOk result (λ b. b.plan ≡ plan) }
+    ensures threads { IfOk result (λ b. b.threads ≡ 0) }
+    ensures run { IfOk result (λ b. Run plan (past b.lines)) }
+    ensures complete { IfOk result (λ b. IsComplete plan (past b.lines)) }
+    ensures ordered { IfOk result (λ b. IsInPlainOrder plan (past b.lines)) }
+    ensures ways { IfOk result (λ b. Ways plan (past b.lines)) }
+{
+    let mut steps: Steps<L> = Steps::new(blank);
+    let mut parts = Parts::make(alloc, plan.settings)?;
+    let mut book = Book::make(alloc, plan, 0)?;
+    'turns: while is_due(&book) {
+        turn(alloc, &mut book, &mut parts, &mut steps)?;
+    }
+    book.is_run();
+    Ok(book)
+}
+
 /// Runs the plan to its end. Want of memory is the only error, and then nothing of the run is left.
 pub fn replay_run(alloc: Global, plan: Plan, turns: Turns) -> Result<Book, NoMemory>
     requires sound { IsSound plan }
@@ -150,15 +140,8 @@ pub fn replay_run(alloc: Global, plan: Plan, turns: Turns) -> Result<Book, NoMem
     ensures run { IfOk result (λ b. Run plan (past b.lines)) }
     ensures complete { IfOk result (λ b. IsComplete plan (past b.lines)) }
     ensures ordered { IfOk result (λ b. IsInPlainOrder plan (past b.lines)) }
-    ensures slow { IfOk result (λ b. AreSlow (past b.lines)) }
+    ensures ways { IfOk result (λ b. Ways plan (past b.lines)) }
 {
     let Turns::Plain = turns;
-    let mut hands = Hands::make(alloc, count_hands(plan.settings) as usize)?;
-    let mut index = Index::make(alloc)?;
-    let mut book = Book::make(alloc, plan, 0)?;
-    'turns: while is_due(&book) {
-        turn(alloc, &mut book, &mut index, &mut hands)?;
-    }
-    book.is_run();
-    Ok(book)
+    run::<Brand>(alloc, plan, Blank::new(1))
 }

@@ -13,7 +13,8 @@ use Rattle.and_laws.proofs.Complete.{one_fate}
 use Rattle.and_laws.proofs.Fates.{accounted}
 use Rattle.and_laws.proofs.Justified.{just}
 use Rattle.and_laws.proofs.Needs.{fresh}
-use Rattle.and_replay.specs.Slow.{AreSlow}
+use Rattle.and_others.specs.Ways.{Ways}
+use Rattle.and_others.proofs.Once.{one_way_run}
 use Rattle.and_outputs.specs.Delivered.{delivered}
 use Rattle.and_outputs.specs.Underlay.{underlay}
 use Rattle.and_report.specs.Report.{report}
@@ -34,7 +35,6 @@ use Rattle.and_top.proofs.Storing.{calls_more, failed_more, stands_later}
 use Rattle.and_planner.specs.Plans.{CanPlan}
 use Rattle.and_outside.specs.Stream.{Stream}
 use Rattle.and_top.specs.Words.{Named}
-use Rattle.and_top.proofs.Only.{only_run}
 use Rattle.and_top.proofs.PlansLemmas.{can_plan}
 use Rattle.and_top.specs.Texts.{AreTexts, outputs_of}
 
@@ -57,23 +57,23 @@ is_whole_run plan h sound run complete spelled =
       spelled = spelled (runs_have_spellings plan h run);
     }
 
-pub is_replay : (plan : Plan) (h : List Event) → IsSound plan → Run plan h → IsComplete plan h → IsInPlainOrder plan h → AreSlow h → (HaveSpellings h → IsSpelled h) → IsReplay plan h
-is_replay plan h sound run complete ordered slow spelled =
+pub is_replay : (plan : Plan) (h : List Event) → IsSound plan → Run plan h → IsComplete plan h → IsInPlainOrder plan h → Ways plan h → (HaveSpellings h → IsSpelled h) → IsReplay plan h
+is_replay plan h sound run complete ordered ways spelled =
     record {
       whole = is_whole_run plan h sound run complete spelled;
       ordered = ordered;
-      slow = slow;
-      only = only_run plan h sound run complete ordered slow;
+      ways = ways;
+      only = λ other run' complete' ordered' ways'. one_way_run plan h other sound run complete ordered ways run' complete' ordered' ways';
     }
 
 -- what a run of the plan writes
 pub texts_are : (scenario : Scenario) (capture : Capture) (plan other : Plan) (h : List Event) (texts : Texts) → plan ≡ planned scenario capture → IsSound plan → Run plan h → IsComplete plan h
-    → IsInPlainOrder plan h → AreSlow h → other ≡ plan → (HaveSpellings h → IsSpelled h) → texts.trace.items ≡ trace h → texts.delivered.items ≡ delivered other h
+    → IsInPlainOrder plan h → Ways plan h → other ≡ plan → (HaveSpellings h → IsSpelled h) → texts.trace.items ≡ trace h → texts.delivered.items ≡ delivered other h
     → texts.underlay.items ≡ underlay other h → texts.report.items ≡ report other h → AreTexts scenario capture texts
-texts_are scenario capture plan other h texts is sound run complete ordered slow same spelled t d u r =
+texts_are scenario capture plan other h texts is sound run complete ordered ways same spelled t d u r =
     record {
       history = h;
-      replays = subst (λ p. IsReplay p h) is (is_replay plan h sound run complete ordered slow spelled);
+      replays = subst (λ p. IsReplay p h) is (is_replay plan h sound run complete ordered ways spelled);
       trace = t;
       delivered = d ∙ ap (λ p. delivered p h) (same ∙ is);
       underlay = u ∙ ap (λ p. underlay p h) (same ∙ is);

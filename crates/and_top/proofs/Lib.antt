@@ -6,4 +6,3 @@ pub mod Puts
 pub mod Refusing
 pub mod Storing
 pub mod Headlines
-pub mod Only

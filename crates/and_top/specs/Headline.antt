@@ -12,9 +12,9 @@ use Rattle.and_events.specs.Planned.{planned}
 use Rattle.and_events.specs.Run.{Run}
 use Rattle.and_events.specs.Sound.{IsSound, IsBuilt}
 use Rattle.and_laws.specs.Fates.{HasOneFate, IsAccounted}
+use Rattle.and_others.specs.Ways.{Ways}
 use Rattle.and_outputs.specs.Delivered.{delivered}
 use Rattle.and_outputs.specs.Underlay.{underlay}
-use Rattle.and_replay.specs.Slow.{AreSlow}
 use Rattle.and_report.specs.Report.{report}
 use Rattle.and_trace.specs.Spelling.{IsSpelled, trace}
 use Rattle.and_top.specs.Inputs.{ScenarioAt, CaptureAt}
@@ -34,13 +34,13 @@ pub record IsWholeRun (plan : Plan) (h : List Event) : Type 0 where
   pub accounted : (later earlier : List Event) → h ≡ later ++ earlier → IsAccounted plan earlier
   pub spelled : IsSpelled h
 
--- What `replay` says besides: of the actors that may act the first one acts, and no decision comes from a flow cache. No other history is such a run, so that
--- the plan says what is written
+-- What `replay` says besides: of the actors that may act the first one acts, and each decision at a host is found in the way that its worker's flow cache gives.
+-- No other history is such a run, so that the plan says what is written
 pub record IsReplay (plan : Plan) (h : List Event) : Type 0 where
   pub whole : IsWholeRun plan h
   pub ordered : IsInPlainOrder plan h
-  pub slow : AreSlow h
-  pub only : (other : List Event) → Run plan other → IsComplete plan other → IsInPlainOrder plan other → AreSlow other → other ≡ h
+  pub ways : Ways plan h
+  pub only : (other : List Event) → Run plan other → IsComplete plan other → IsInPlainOrder plan other → Ways plan other → other ≡ h
 
 -- both files as they were when the call began, where they are told; what they plan is sound and what the program runs so far, and it was run
 pub record Ran (names : Named) (files : Disk) : Type 0 where

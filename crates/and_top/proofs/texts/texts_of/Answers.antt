@@ -18,5 +18,5 @@ returns c =
     let reported : c.in_ok-report.report.items ≡ report c.in_ok-book.book.plan (past c.in_ok-book.book.lines) = search rules in
     texts_are c.args.scenario c.args.capture c.in_ok-plan.plan c.in_ok-book.book.plan (past c.in_ok-book.book.lines)
     (record { trace = c.in_ok-trace.trace; delivered = c.in_ok-delivered.delivered; underlay = c.in_ok-underlay.underlay; report = c.in_ok-report.report })
-    c.in_ok-plan.ensures.planned c.in_ok-plan.ensures.sound c.in_ok-book.ensures.run c.in_ok-book.ensures.complete c.in_ok-book.ensures.ordered c.in_ok-book.ensures.slow
+    c.in_ok-plan.ensures.planned c.in_ok-plan.ensures.sound c.in_ok-book.ensures.run c.in_ok-book.ensures.complete c.in_ok-book.ensures.ordered c.in_ok-book.ensures.ways
     c.in_ok-book.ensures.plan spelled traced arrived sent reported

@@ -5,6 +5,7 @@ use Rattle.and_events.specs.declared.event.Event.TheVariants as events
 use Rattle.and_events.specs.declared.plan.Plan.{Plan}
 use Rattle.and_events.specs.declared.plan.Step.{Step}
 use Rattle.and_events.specs.declared.plan.Step.TheVariants as steps
+use Rattle.and_events.specs.Legal.{CanUnpin}
 use Rattle.and_events.specs.State.{State}
 use Rattle.and_book.specs.Views.{BookView, now, with_line, finds_full}
 
@@ -25,3 +26,10 @@ pub record DoesStep (old new : BookView) (seat : ℕ) : Type 0 where
   pub step : Step
   pub due : slice_get old.plan.steps (now old).next ≡ Some step
   pub line : new ≡ with_line old seat (event_of old.plan (now old) step)
+
+-- the book has one line more, of this seat: of the hairpins that may end the first one has ended
+pub record Unpins (old new : BookView) (seat : ℕ) : Type 0 where
+  pub host : ℕ
+  pub vm : ℕ
+  pub first : CanUnpin old.plan (now old) host vm
+  pub line : new ≡ with_line old seat (events.Unpin host vm)

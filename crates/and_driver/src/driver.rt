@@ -1,12 +1,12 @@
-//! The turn of the driver.
+//! The turns of the driver and of the controller.
 ghost use Rattle.std.specs.Prelude.{◌≡◌, ◌↔◌, ◌+◌, ◌<◌, ◌≤◌, IsTrue, false, length, IfOk, OnOk, OnErr, IsOk, Some, slice_get, slice_index_or};
-ghost use Rattle.and_events.specs.declared.event.Actor.TheVariants.{Driver};
+ghost use Rattle.and_events.specs.declared.event.Actor.TheVariants.{Controller, Driver};
 ghost use Rattle.and_events.specs.Legal.{Enabled};
 ghost use Rattle.and_events.specs.Sound.{IsBuiltStep};
 ghost use Rattle.and_events.specs.State.{no_packet};
 ghost use Rattle.and_policy.specs.Frames.{fields};
 ghost use Rattle.and_book.specs.Views.{now, held, IsSeat};
-ghost use Rattle.and_driver.specs.Driving.{DoesStep};
+ghost use Rattle.and_driver.specs.Driving.{DoesStep, Unpins};
 
 use and_book::Book;
 use and_events::{Actor, Items, Packet, Step};
@@ -98,4 +98,26 @@ pub fn turn(alloc: Global, book: &mut Book, seat: u32) -> Result<bool, NoMemory>
     }
     drive(alloc, book, seat)?;
     Ok(true)
+}
+
+/// Ends the hairpin that is the next to end, and answers true; false, with the book unchanged, exactly where the controller may not act. What the program runs
+/// so far makes no hairpin, so that it never may.
+///
+/// # Errors
+///
+/// Where memory is wanting: the book is unchanged. None is taken.
+pub fn control(alloc: Global, book: &mut Book, seat: u32) -> Result<bool, NoMemory>
+    requires seat { IsSeat book.old seat Controller }
+    requires room { held book.old + 1 ≤ book.old.spare }
+    ensures may { IfOk result (λ done. IsTrue done ↔ Enabled book.old.plan (now book.old) Controller) }
+    ensures done { IfOk result (λ done. IsTrue done → Unpins book.old book.new seat) }
+    ensures idle { IfOk result (λ done. done ≡ false → book.new ≡ book.old) }
+    ensures err { OnErr result (book.new ≡ book.old) }
+{
+    let _ = (alloc, seat);
+    book.is_run();
+    if book.enabled(Actor::Controller) {
+        unreachable!();
+    }
+    Ok(false)
 }

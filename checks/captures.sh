@@ -11,9 +11,9 @@ work=$(mktemp -d) || exit 1
 trap 'rm -rf "$work"' EXIT
 failed() { echo "failed: $1"; exit 1; }
 
-for example in "two-vms hundred-frames" "three-hosts traffic"; do
+for example in "two-vms two-vms/hundred-frames" "three-hosts three-hosts/traffic" "lag three-hosts/traffic"; do
   read -r folder capture <<<"$example"
-  of=("examples/$folder/scenario.json" "examples/$folder/$capture.pcap")
+  of=("examples/$folder/scenario.json" "examples/$capture.pcap")
   out=$work/$folder
   "$program" replay "${of[@]}" "$out" >/dev/null || failed "the replay of $folder"
   python3 scripts/captures.py "${of[@]}" "$out" || failed "the captures of $folder"

@@ -1,5 +1,7 @@
 #!/usr/bin/env python3
-"""Writes a scenario and captures for `run.sh`: 8 hosts, 4 networks of 15 rules each (60 in all), 40 VMs, and captures of the frames that are asked for.
+"""Writes scenarios and captures for `run.sh`: 8 hosts, 4 networks of 15 rules each (60 in all), 40 VMs, and captures of the frames that are asked for, of 100
+bytes each; the same with 64 hosts, with 4 and with 4,000 rules in networks that no frame is of, and with 4 and with 256 rules in each network of the frames;
+and 10,000 frames of 1,400 bytes.
 
 Usage: make_input.py FOLDER FRAMES..
 """
@@ -11,17 +13,25 @@ import sys
 HOSTS, NETS, RULES, VMS = 8, 4, 15, 40
 
 
-def scenario():
-    script = [{"do": "add_net", "net": 1 + n} for n in range(NETS)]
+def rule(net, r):
+    """Rule number r + 1 of a network: of both sides in turns, most of which allow a port of TCP."""
+    port = 80 + r
+    return {"do": "add_rule", "net": net, "number": 1 + r, "priority": 10 * r, "side": "egress" if r % 2 else "ingress",
+            "action": "allow" if r % 3 else "deny", "protocol": "tcp", "destination_ports": [port, port]}
+
+
+def scenario(hosts=HOSTS, rules=RULES, elsewhere=0):
+    """Each of the networks of the VMs has so many rules, and 20 others, which have no VM, have so many together."""
+    script = [{"do": "add_net", "net": 1 + n} for n in range(NETS + 20)]
     for v in range(VMS):
-        script.append({"do": "add_vm", "vm": f"v{v}", "net": 1 + v % NETS, "mac": mac(v), "ip": f"10.0.0.{v + 1}", "host": v % HOSTS})
-    for n in range(NETS):
-        for r in range(RULES):
-            side = "egress" if r % 2 else "ingress"
-            port = 80 + r
-            script.append({"do": "add_rule", "net": 1 + n, "number": 1 + r, "priority": 10 * r, "side": side,
-                           "action": "allow" if r % 3 else "deny", "protocol": "tcp", "destination_ports": [port, port]})
-    return {"hosts": HOSTS, "gateways": 1, "script": script + [{"do": "wait"}, {"do": "send"}]}
+        script.append({"do": "add_vm", "vm": f"v{v}", "net": 1 + v % NETS, "mac": mac(v), "ip": f"10.0.0.{v + 1}", "host": v % hosts})
+    script += [rule(1 + n, r) for n in range(NETS) for r in range(rules)]
+    script += [rule(1 + NETS + r % 20, r // 20) for r in range(elsewhere)]
+    return {"hosts": hosts, "gateways": 1, "script": script + [{"do": "wait"}, {"do": "send"}]}
+
+
+SCENARIOS = {"scenario": {}, "64-hosts": {"hosts": 64}, "4-elsewhere": {"elsewhere": 4}, "4000-elsewhere": {"elsewhere": 4000},
+             "4-rules": {"rules": 4}, "256-rules": {"rules": 256}}
 
 
 def mac(v):
@@ -38,18 +48,24 @@ def frame(i, size):
     return (ethernet + ip + tcp).ljust(size, b"\0")
 
 
+def capture(path, count, size):
+    with open(path, "wb") as out:
+        out.write(struct.pack("<IHHIIII", 0xA1B2C3D4, 2, 4, 0, 0, 262144, 1))
+        for i in range(count):
+            data = frame(i, size)
+            out.write(struct.pack("<IIII", i // 1000, i % 1000, len(data), len(data)) + data)
+
+
 def main():
     folder = sys.argv[1]
-    with open(os.path.join(folder, "scenario.json"), "w") as out:
-        json.dump(scenario(), out)
+    for name, options in SCENARIOS.items():
+        with open(os.path.join(folder, f"{name}.json"), "w") as out:
+            json.dump(scenario(**options), out)
     with open(os.path.join(folder, "no-vms.json"), "w") as out:
         json.dump({"hosts": 1, "gateways": 1, "script": [{"do": "send"}]}, out)
     for count in map(int, sys.argv[2:]):
-        with open(os.path.join(folder, f"{count}.pcap"), "wb") as out:
-            out.write(struct.pack("<IHHIIII", 0xA1B2C3D4, 2, 4, 0, 0, 262144, 1))
-            for i in range(count):
-                data = frame(i, 100)
-                out.write(struct.pack("<IIII", i // 1000, i % 1000, len(data), len(data)) + data)
+        capture(os.path.join(folder, f"{count}.pcap"), count, 100)
+    capture(os.path.join(folder, "long.pcap"), 10000, 1400)
 
 
 main()

@@ -1,8 +1,8 @@
 #!/usr/bin/env bash
-# What a replay costs, in one run: 1,000, 10,000 and 100,000 frames of 100 bytes over 8 hosts, 40 VMs and 60 rules in 4 networks, in frames and events a
-# second and peak memory, and the reading of the largest capture (a scenario without VMs, so that each frame is read and skipped) beside
-# the plainest C. It needs the program that `rt run` or `rt ci` leaves in
-# crates/andromeda/out.
+# What a replay costs, in one run, with all that it writes: 1,000, 10,000 and 100,000 frames of 100 bytes over 8 hosts, 40 VMs and 60 rules in 4 networks, in
+# frames and events a second and peak memory; how the cost of a frame grows with frames, hosts and rules; 10,000 frames of 1,400 bytes; and the reading of the
+# largest capture (a scenario without VMs, so that each frame is read and skipped) beside the plainest C. It needs the program that `rt run` or `rt ci` leaves
+# in crates/andromeda/out.
 set -u
 cd "$(dirname "$0")/../.." || exit 1
 . bench/best.sh
@@ -26,6 +26,20 @@ for frames in 1000 10000 100000; do
   peak=$(peak_kb "$program" replay "$work/scenario.json" "$work/$frames.pcap" "$work/x") || exit 1
   echo ", peak memory ${peak:-unknown} KB"
 done
+
+# grows WHAT SCENARIO FRAMES SCENARIO FRAMES: how many times as much a frame costs in the second replay as in the first, by processor time.
+grows() {
+  local first
+  best 5 "$program" replay "$work/$2.json" "$work/$3.pcap" "$work/x" || exit 1
+  first=$(over "$best_cpu_ms" "$3" 9)
+  best 5 "$program" replay "$work/$4.json" "$work/$5.pcap" "$work/x" || exit 1
+  echo "$1: a frame costs $(over "$(over "$best_cpu_ms" "$5" 9)" "$first") times as much"
+}
+grows "100,000 frames for 10,000" scenario 10000 scenario 100000
+grows "64 hosts for 8" scenario 100000 64-hosts 100000
+grows "4,000 rules in other networks for 4" 4-elsewhere 100000 4000-elsewhere 100000
+grows "256 rules in the packet's network for 4" 4-rules 100000 256-rules 100000
+echo "10000 frames of 1400 bytes: $(ms "$program" replay "$work/scenario.json" "$work/long.pcap" "$work/x") ms"
 ours=$(ms "$program" replay "$work/no-vms.json" "$work/100000.pcap" "$work/x") || exit 1
 c=$(ms "$work/read" "$work/100000.pcap") || exit 1
 echo "reading 100000 frames of 100 bytes: $ours ms, plain C $c ms, ratio $(over "$ours" "$c")"

@@ -3,19 +3,14 @@ use Rattle.std.specs.Prelude.{◌≡◌, ℕ, ◌≤◌, List, [], ◌∷◌, �
 use Rattle.and_policy.specs.declared.entry.Entry.{Entry}
 use Rattle.and_policy.specs.declared.entry.Op.{Op}
 use Rattle.and_policy.specs.declared.entry.Op.TheVariants as ops
-use Rattle.and_policy.specs.declared.entry.Order.{Order}
 use Rattle.and_policy.specs.Programmes.{prefix}
+use Rattle.and_events.specs.declared.event.Given.{Given}
 
 pub record Programmes : Type 0 where
   pub log : List Entry
   pub ops : List (List Op)  -- each node's programme
   pub announced : List ℕ  -- how long the programme was at the node's last announcement
   pub installed : List ℕ  -- how much of it is installed
-
--- an offload order, and the host that gets it
-pub record Given : Type 0 where
-  pub host : ℕ
-  pub order : Order
 
 -- what an event does to these
 pub data Word : Type 0 where

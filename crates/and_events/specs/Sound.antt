@@ -144,10 +144,12 @@ IsBuiltEntry (AddRule net rule) = rule.sealed ≡ false
 IsBuiltEntry (DelRule net number) = Unit {0}
 IsBuiltEntry (AddRoute net route) = Unit {0}
 IsBuiltEntry (DelRoute net number) = Unit {0}
+IsBuiltEntry Tick = Unit {0}
 IsBuiltEntry _ = ⊥
 
 abbrev pub IsBuiltStep : Step → Type 0
 IsBuiltStep (Append e) = IsBuiltEntry e
+IsBuiltStep Review = Unit {0}
 IsBuiltStep (Hold node what) = Unit {0}
 IsBuiltStep (Free node what) = Unit {0}
 IsBuiltStep Wait = Unit {0}

@@ -38,7 +38,7 @@ use Rattle.and_events.specs.declared.plan.Settings.{Settings}
 use Rattle.and_events.specs.declared.plan.Plan.{Plan}
 use Rattle.and_events.specs.Places.{node_count, node_place, queue_place, queue_count, hand_count, hand_place, node_of}
 use Rattle.and_events.specs.Flow.{Flow, Move, Stay, Enter, Lose, Grab, Send, SealLater, Stop, flow_after, carried_in, enter_by, send_by, seal_by}
-use Rattle.and_events.specs.Programming.{Programmes, Given, Word, Quiet, Logs, Orders, Announces, Installs, programmes_after, programme_at, announced_at, installed_at}
+use Rattle.and_events.specs.Programming.{Programmes, Word, Quiet, Logs, Orders, Announces, Installs, programmes_after, programme_at, announced_at, installed_at}
 use Rattle.and_events.specs.Ports.{PortMove, Unmoved, Boot, Halt, Pause, Arrive, Unpinned, ports_after, ports_of, leaves_host, comes_to}
 use Rattle.and_events.specs.Usage.{Used, UsageMove, Unused, Uses, Cleared, usage_after, orders_of}
 

@@ -9,7 +9,7 @@ use Rattle.and_policy.specs.declared.decision.Routed.TheVariants as routeds
 use Rattle.and_policy.specs.Logs.{now}
 use Rattle.and_policy.specs.Owners.{routed}
 use Rattle.and_events.specs.declared.plan.Settings.{Settings}
-use Rattle.and_events.specs.Programming.{Given}
+use Rattle.and_events.specs.declared.event.Given.{Given}
 
 -- the bytes of a key
 pub record Used : Type 0 where

@@ -1,6 +1,6 @@
 //! What happens in a run.
 
-use and_policy::{Dest, Name, Way};
+use and_policy::{Dest, Name, Order, Way};
 
 /// A host (hypervisor) or a gateway (hoverboard).
 #[derive(Clone, Copy, PartialEq, Eq)]
@@ -240,6 +240,15 @@ pub struct Held {
     pub need: u32,
     /// The queue from which the packet was taken.
     pub queue: Queue,
+}
+
+/// An offload order, and the host whose programme gets it.
+#[derive(Clone, Copy, PartialEq, Eq)]
+pub struct Given {
+    /// The host.
+    pub host: u32,
+    /// The order.
+    pub order: Order,
 }
 
 /// What an outer destination address stands for (a VTEP).

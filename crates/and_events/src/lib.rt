@@ -7,8 +7,8 @@ mod places;
 mod plan;
 
 pub use event::{
-    Actor, Arrival, Carried, Departure, End, Endpoint, Event, Held, Line, Node, Passage, Queue,
-    Return,
+    Actor, Arrival, Carried, Departure, End, Endpoint, Event, Given, Held, Line, Node, Passage,
+    Queue, Return,
 };
 pub use items::Items;
 pub use places::{

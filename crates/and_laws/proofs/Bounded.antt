@@ -11,7 +11,8 @@ use Rattle.and_events.specs.declared.event.Event.{Event}
 use Rattle.and_events.specs.declared.event.Event.TheVariants.{Append, Review, Resume, Announce, Installed}
 use Rattle.and_events.specs.declared.plan.Plan.{Plan}
 use Rattle.and_events.specs.Places.{node_count}
-use Rattle.and_events.specs.Programming.{Programmes, Given, Word, Quiet, Logs, Orders, Announces, Installs, programmes_after, programme_at, announced_at, installed_at, with_orders}
+use Rattle.and_events.specs.declared.event.Given.{Given}
+use Rattle.and_events.specs.Programming.{Programmes, Word, Quiet, Logs, Orders, Announces, Installs, programmes_after, programme_at, announced_at, installed_at, with_orders}
 use Rattle.and_events.specs.State.{State, state, start, after, word_of}
 use Rattle.and_events.specs.Legal.{Legal}
 use Rattle.and_events.specs.Run.{Run}

@@ -8,7 +8,8 @@ use Rattle.and_policy.specs.declared.entry.Entry.{Entry}
 use Rattle.and_policy.specs.declared.entry.Op.{Op}
 use Rattle.and_policy.specs.declared.entry.Op.TheVariants as ops
 use Rattle.and_policy.specs.Programmes.{entries, prefix, adds, added_at}
-use Rattle.and_events.specs.Programming.{Programmes, Given, Word, Quiet, Logs, Orders, Announces, Installs, programme_at, installed_at, with_orders, programmes_after, entries_installed, HasInstalled}
+use Rattle.and_events.specs.declared.event.Given.{Given}
+use Rattle.and_events.specs.Programming.{Programmes, Word, Quiet, Logs, Orders, Announces, Installs, programme_at, installed_at, with_orders, programmes_after, entries_installed, HasInstalled}
 use Rattle.and_laws.proofs.Needed.{Raises}
 use Rattle.and_laws.proofs.Rows.{set_at}
 

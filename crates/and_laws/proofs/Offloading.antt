@@ -35,7 +35,8 @@ use Rattle.and_events.specs.declared.plan.Step.TheVariants as steps
 use Rattle.and_events.specs.declared.plan.Settings.{Settings}
 use Rattle.and_events.specs.declared.plan.Plan.{Plan}
 use Rattle.and_events.specs.Places.{node_count, node_place, node_of, IsNode, IsActor, IsWorker}
-use Rattle.and_events.specs.Programming.{Programmes, Given, Word, Quiet, Logs, Orders, Announces, Installs, programmes_after, programme_at, with_orders}
+use Rattle.and_events.specs.declared.event.Given.{Given}
+use Rattle.and_events.specs.Programming.{Programmes, Word, Quiet, Logs, Orders, Announces, Installs, programmes_after, programme_at, with_orders}
 use Rattle.and_events.specs.Usage.{Used, order_to, order_for}
 use Rattle.and_events.specs.State.{State, state, start, after, word_of, word_of_step, programme_of, packet_at, tuple_at, source_net}
 use Rattle.and_events.specs.Legal.{Legal, entries_at}

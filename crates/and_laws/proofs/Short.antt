@@ -27,7 +27,8 @@ use Rattle.and_events.specs.declared.plan.Settings.{Settings}
 use Rattle.and_events.specs.declared.plan.Plan.{Plan}
 use Rattle.and_events.specs.Places.{capacity_at, hand_place, node_of, node_count, queue_count, hand_count}
 use Rattle.and_events.specs.Flow.{Move, hand_at}
-use Rattle.and_events.specs.Programming.{Programmes, Given, Word, Quiet, Logs, Orders, Announces, Installs, programmes_after, programme_at, with_orders}
+use Rattle.and_events.specs.declared.event.Given.{Given}
+use Rattle.and_events.specs.Programming.{Programmes, Word, Quiet, Logs, Orders, Announces, Installs, programmes_after, programme_at, with_orders}
 use Rattle.and_events.specs.Usage.{Used, UsageMove, Unused, Uses, Cleared, usage_after, with_use, same_key, key_before, order_for, orders_of}
 use Rattle.and_events.specs.State.{State, state, start, after, move_of, word_of, step_of, usage_move_of, usage_by, next_after, departs, send, source_net, carried_at, dest_endpoint, dest_net}
 use Rattle.and_events.specs.Legal.{Legal}

@@ -17,7 +17,8 @@ use Rattle.and_events.specs.declared.plan.Step.TheVariants as steps
 use Rattle.and_events.specs.declared.plan.Plan.{Plan}
 use Rattle.and_events.specs.Places.{hand_count, hand_place, IsActor}
 use Rattle.and_events.specs.Flow.{Flow, Move, Stay, Enter, Lose, Grab, Send, SealLater, Stop, flow_after}
-use Rattle.and_events.specs.Programming.{Programmes, Given, Word, Quiet, Logs, Orders, Announces, Installs, programmes_after, with_orders}
+use Rattle.and_events.specs.declared.event.Given.{Given}
+use Rattle.and_events.specs.Programming.{Programmes, Word, Quiet, Logs, Orders, Announces, Installs, programmes_after, with_orders}
 use Rattle.and_events.specs.Ports.{PortMove, Unmoved, Boot, Halt, Pause, Arrive, Unpinned, ports_after, ports_of, with_port}
 use Rattle.and_events.specs.State.{State, NodeHolds, state, start, after, move_of, word_of, ports_move_of, holds_after, holds_by, with_hold}
 use Rattle.and_events.specs.Legal.{TakesFrom}

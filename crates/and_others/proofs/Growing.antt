@@ -14,7 +14,8 @@ use Rattle.and_events.specs.declared.plan.Step.{Step}
 use Rattle.and_events.specs.declared.plan.Step.TheVariants as steps
 use Rattle.and_events.specs.Legal.{Legal}
 use Rattle.and_events.specs.Places.{node_count, node_place, IsNode}
-use Rattle.and_events.specs.Programming.{Programmes, Given, Word, Quiet, Logs, Orders, Announces, Installs, programmes_after, with_orders, programme_at, announced_at, installed_at}
+use Rattle.and_events.specs.declared.event.Given.{Given}
+use Rattle.and_events.specs.Programming.{Programmes, Word, Quiet, Logs, Orders, Announces, Installs, programmes_after, with_orders, programme_at, announced_at, installed_at}
 use Rattle.and_events.specs.Run.{Run}
 use Rattle.and_events.specs.Sound.{IsSound}
 use Rattle.and_events.specs.State.{State, state, after, word_of, word_of_step, programme_of, announced_of, installed_of}

@@ -62,6 +62,8 @@ item_builds n p (items.Entry (entries.AddRule net rule)) None is b = entry_build
 item_builds n p (items.Entry (entries.DelRule net number)) None is b = entry_builds p (entries.DelRule net number) tt b
 item_builds n p (items.Entry (entries.AddRoute net route)) None is b = entry_builds p (entries.AddRoute net route) tt b
 item_builds n p (items.Entry (entries.DelRoute net number)) None is b = entry_builds p (entries.DelRoute net number) tt b
+item_builds n p (items.Entry entries.Tick) None is b =
+    record { steps = All-append IsBuiltStep p.steps (steps.Append entries.Tick ∷ steps.Review ∷ []) b.steps (All-from_recursion IsBuiltStep (steps.Append entries.Tick ∷ steps.Review ∷ []) (tt, (tt, tt))) }
 item_builds n p items.Wait None is b = record { steps = one_more p.steps steps.Wait b.steps tt }
 item_builds n p (items.Hold node what) None is b = record { steps = one_more p.steps (steps.Hold node what) b.steps tt }
 item_builds n p (items.Free node what) None is b = record { steps = one_more p.steps (steps.Free node what) b.steps tt }

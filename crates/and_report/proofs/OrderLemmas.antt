@@ -13,7 +13,8 @@ use Rattle.and_events.specs.declared.plan.Step.{Step}
 use Rattle.and_events.specs.declared.plan.Step.TheVariants as steps
 use Rattle.and_events.specs.declared.plan.Plan.{Plan}
 use Rattle.and_events.specs.Places.{node_count}
-use Rattle.and_events.specs.Programming.{Programmes, Given, Word, Quiet, Logs, Orders, Announces, Installs, programmes_after, with_orders}
+use Rattle.and_events.specs.declared.event.Given.{Given}
+use Rattle.and_events.specs.Programming.{Programmes, Word, Quiet, Logs, Orders, Announces, Installs, programmes_after, with_orders}
 use Rattle.and_events.specs.State.{State, state, start, after, word_of, word_of_step}
 use Rattle.and_report.specs.Tally.{is_order, orders_among}
 use Rattle.and_report.specs.Orders.{is_review, gives_orders}

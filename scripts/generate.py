@@ -3,8 +3,8 @@
 and N.trace for N from 0 on.
 
 Use: generate.py FOLDER COUNT SEED
-The scenarios are of the kinds of items that the program takes so far: networks, VMs, rules, routes, what deletes these, sends, waits, holds and
-frees, on up to seven hosts and eight gateways, with settings of all kinds. About half of the packets are of the flow of an earlier one.
+The scenarios are of the kinds of items that the program takes so far: networks, VMs, rules, routes, what deletes these, ticks, sends, waits, holds
+and frees, on up to seven hosts and eight gateways, with settings of all kinds. About half of the packets are of the flow of an earlier one.
 """
 
 import os
@@ -14,14 +14,11 @@ import sys
 
 import model
 
-# A decision is found in a flow cache so far where its node is at the number of operations at which it was put.
-model.STAMPS_PER_NETWORK = False
-
 
 def settings_of(draw):
     """Settings that are named, each now and then: small queues and hop limits, so that packets are lost to them."""
-    ranges = {"workers": (1, 4), "hop_limit": (1, 3), "out_queue": (1, 4), "wire_queue": (1, 3), "seal_queue": (1, 4096), "threshold": (1, 1000), "life": (1, 9)}
-    return "".join(f'"{name}":{draw.randint(*ranges[name])},' for name in ranges if draw.random() < 0.2)
+    ranges = {"workers": (1, 4), "hop_limit": (1, 3), "out_queue": (1, 4), "wire_queue": (1, 3), "seal_queue": (1, 4096), "threshold": (1, 150), "life": (1, 4)}
+    return "".join(f'"{name}":{draw.randint(*ranges[name])},' for name in ranges if draw.random() < (0.8 if name == "threshold" else 0.2))
 
 
 def scenario_of(draw):
@@ -55,6 +52,12 @@ def scenario_of(draw):
     for _ in range(draw.choice([0, 0, 1, 3, 6])):
         items.insert(draw.randrange(0, len(items) + 1), f'{{"do":"{draw.choice(["hold", "hold", "free"])}",'
                      f'"node":"{draw.choice("hhg")}{draw.randrange(0, hosts)}","what":"{draw.choice(["install", "forward"])}"}}')
+    # Ticks between sends in about half of them: usage reaches the threshold, flows are offloaded, and orders end by ticks and by what changes their networks.
+    if draw.random() < 0.5:
+        for _ in range(draw.randrange(2, 7)):
+            items.append('{"do":"send","frames":%d}' % draw.randrange(3, 14))
+            items.append(draw.choice(['{"do":"tick"}'] * 3 + [f'{{"do":"del_rule","net":{draw.choice(nets)},"number":{draw.randrange(1, 6)}}}',
+                                                              f'{{"do":"del_route","net":{draw.choice(nets)},"number":{draw.randrange(1, 6)}}}']))
     if draw.random() < 0.7:
         items.append('{"do":"send"}')
     return f'{{"hosts":{hosts},"gateways":{draw.randrange(1, 9)},{settings_of(draw)}"script":[' + ",\n".join(items) + "]}\n", vms
@@ -76,9 +79,9 @@ def frame_of(draw, vms, number):
 
 
 def capture_of(draw, vms):
-    """A capture of up to sixty frames, of which about half repeat an earlier one, whose packet is then of the same flow."""
+    """A capture of up to ninety frames, of which about half repeat an earlier one, whose packet is then of the same flow."""
     out, frames = struct.pack("<IHHIIII", 0xA1B2C3D4, 2, 4, 0, 0, 262144, 1), []
-    for number in range(draw.randrange(0, 60)):
+    for number in range(draw.randrange(0, 90)):
         data = draw.choice(frames) if frames and draw.random() < 0.5 else frame_of(draw, vms, number)
         frames.append(data)
         out += struct.pack("<IIII", 1_000_000_000 + number, number, len(data), len(data)) + data

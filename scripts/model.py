@@ -13,8 +13,8 @@ import sys
 from formats import Refused, flow_hash, read_capture, read_frame, read_scenario, write_capture
 
 MOST_NETS, MOST_VMS, MOST_RULES = 64, 1024, 256
-# Whether a cached outcome answers as long as its network is not touched. Where not, it answers at the number of operations at which it was put, alone.
-STAMPS_PER_NETWORK = True
+# Whether a cached outcome answers as long as its network is not touched. So far it answers at the number of operations at which it was put, alone.
+STAMPS_PER_NETWORK = False
 
 
 # ---- the policy under a list of entries

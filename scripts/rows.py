@@ -33,6 +33,7 @@ SEND, SEND_1, WAIT, TICK = '{"do":"send"}', '{"do":"send","frames":1}', '{"do":"
 SEND_2, SEND_3 = '{"do":"send","frames":2}', '{"do":"send","frames":3}'
 NO_RULE_1 = '{"do":"del_rule","net":7,"number":1}'
 NO_UDP = '{"do":"add_rule","net":7,"number":2,"priority":10,"side":"egress","action":"deny","protocol":"udp"}'
+SEALED = '{"do":"add_rule","net":7,"number":2,"priority":50,"side":"egress","action":"allow","sealed":true}'
 PEER_ITEMS = [
     '{"do":"add_net","net":8}',
     '{"do":"add_vm","vm":"c","net":8,"mac":"02:00:00:00:00:03","ip":"10.0.1.3","host":0}',
@@ -46,10 +47,10 @@ def vm_b(host):
     return f'{{"do":"add_vm","vm":"b","net":7,"mac":"02:00:00:00:00:02","ip":"10.0.0.2","host":{host}}}'
 
 
-def base(*more, hosts=2, settings=""):
+def base(*more, hosts=2, gateways=1, settings=""):
     """Two VMs of network 7 at hosts 0 and 1, of which b takes TCP to port 80, a wait, and these items."""
     script = ",\n".join([NET_7, VM_A, vm_b(hosts > 1 and 1 or 0), RULE_1, WAIT, *more])
-    return f'{{"hosts":{hosts},"gateways":1,{settings}"script":[{script}]}}\n'
+    return f'{{"hosts":{hosts},"gateways":{gateways},{settings}"script":[{script}]}}\n'
 
 
 def move(vm, host):
@@ -89,10 +90,13 @@ def capture(*frames, order="<", magic=0xA1B2C3D4):
 ROWS = []
 
 
-def row(name, shows, scenario, data, trace="", report="", words=None, without=(), lengths=None, said=None, more=None, failing=None, left=()):
-    """A row: its name, what it shows, its two files, lines that it must have, and what is not plain of it: the call that fails, and what stands then."""
+def row(name, shows, scenario, data, trace="", report="", words=None, without=(), lengths=None, said=None, more=None, failing=None, left=(),
+        by_network=False):
+    """A row: its name, what it shows, its two files, lines that it must have, and what is not plain of it: the call that fails, and what stands then;
+    and whether a cached outcome is as good as its network is untouched."""
     ROWS.append({"name": name, "shows": shows, "scenario": scenario, "capture": data, "trace": trace, "report": report, "words": words,
-                 "without": without, "lengths": lengths or {}, "said": said, "more": more or {}, "failing": failing, "left": left})
+                 "without": without, "lengths": lengths or {}, "said": said, "more": more or {}, "failing": failing, "left": left,
+                 "by_network": by_network})
 
 
 BEGINNINGS = []
@@ -141,11 +145,19 @@ def whole_runs():
     row("host-behind-the-log", "A host whose installs are held decides by the prefix that it has installed.",
         base(hold("h1", "install"), NO_RULE_1, SEND_1), one,
         trace="egress h0.w0 0 5 slow allow implied plain hover g0 queued\ningress h1.w0 0 4 slow vm 1 running rule 1 deliver\nfree 8\nfinish 9")
+    row("gateways-by-the-flow", "Each flow goes by one gateway, that of its hash, and each gateway routes by what it has installed.",
+        base(hold("g1", "install"), '{"do":"add_route","net":7,"number":1,"prefix":"10.0.0.2/32","target":"drop"}', SEND, gateways=3),
+        capture(frame(source_port=4098), frame(source_port=4097), frame(source_port=4096), frame(source_port=4097)),
+        trace="egress h0.w0 0 5 slow allow implied plain hover g2 queued\nroute g2.w 0 5 route 1 drop\n"
+        "egress h0.w0 1 5 slow allow implied plain hover g1 queued\nroute g1.w 1 4 implied send h1 7 queued\n"
+        "egress h0.w0 2 5 slow allow implied plain hover g0 queued\nroute g0.w 2 5 route 1 drop\n"
+        "egress h0.w0 3 5 fast allow implied plain hover g1 queued\nroute g1.w 3 4 implied send h1 7 queued\nfree 11\nannounce g1 5",
+        report="delivered 2\ndropped 2\nhover 4\nsends 6\ndrop route 7 1 2")
     row("cache-that-grew-stale", "A deletion makes the cached verdict stale.", base(SEND_1, NO_RULE_1, SEND_1), capture(F1, F1),
         trace="egress h0.w0 1 5 slow\ningress h1.w0 1 5 slow vm 1 running implied drop")
     row("cache-kept-over-a-tick", "A tick touches no network, so the cached outcomes still answer.", base(SEND_1, TICK, SEND_1), capture(F1, F1),
         trace="egress h0.w0 1 5 fast allow implied plain hover g0 queued\ningress h1.w0 1 5 fast vm 1 running rule 1 deliver",
-        report="fast 2\nslow 2")
+        report="fast 2\nslow 2", by_network=True)
     row("full-out-queue", "The second packet finds the queue of its VM's host full.",
         base(hold("h0", "forward"), SEND_2, free("h0", "forward"), settings='"out_queue":1,'), capture(F1, F1),
         trace="inject 6 0 queued\ninject 7 1 full", report="delivered 1\nlost queue 1")
@@ -216,10 +228,9 @@ def migrations():
 
 def sealings():
     """Packets that a coprocessor seals."""
-    rule = '{"do":"add_rule","net":7,"number":2,"priority":50,"side":"egress","action":"allow","sealed":true}'
-    row("sealed-by-the-coprocessor", "The egress rule seals, so the coprocessor sends, with an outer UDP checksum at each send.", base(rule, SEND),
+    row("sealed-by-the-coprocessor", "The egress rule seals, so the coprocessor sends, with an outer UDP checksum at each send.", base(SEALED, SEND),
         capture(F2), trace="egress h0.w0 0 5 slow allow rule 2 sealed hover g0 queued\ntake h0.c seal 0\nsealed h0.c 0 queued")
-    row("sealed-with-a-zero-sum", "A computed checksum of 0 is sent as ffff.", base(rule, SEND), capture(F3))
+    row("sealed-with-a-zero-sum", "A computed checksum of 0 is sent as ffff.", base(SEALED, SEND), capture(F3))
 
 
 def balanced_and_parked():
@@ -280,12 +291,12 @@ NOT_BUILT = "scenario: NotBuilt"
 
 def not_built():
     """What cannot be run yet, and what is refused before it."""
-    row("tick-that-is-not-built", "The system has no clock yet.", base(TICK), capture(), said=NOT_BUILT)
+    row("seal-that-is-not-built", "The system seals no packet yet.", base(SEALED), capture(), said=NOT_BUILT)
     row("holds-freed-at-the-end", "What is still held at the end is freed before it, installs of a node before its forwarding, hosts before gateways.",
         '{"hosts":1,"gateways":2,"script":[%s]}' % ",".join([hold("g1", "install"), hold("h0", "forward"), NET_7, hold("h0", "install"), WAIT]), capture(),
         trace="hold 3\nwait 4\nfree 5\nfree 6\nfree 7\nannounce g1 1\ninstalled g1 1\nfinish 8")
     row("grammar-before-what-is-built", "An item that is out of range, after one that cannot be run yet.",
-        '{"hosts":1,"gateways":1,"script":[{"do":"tick"},{"do":"add_net","net":0}]}', capture(), said="scenario: Range /script/1/net")
+        '{"hosts":1,"gateways":1,"script":[%s,{"do":"add_net","net":0}]}' % SEALED, capture(), said="scenario: Range /script/1/net")
 
 
 def faults():
@@ -401,6 +412,7 @@ def composed(it):
 
 def run_texts(it):
     """What the run of a row gives, with the lines that are known beside the model tested."""
+    model.STAMPS_PER_NETWORK = it["by_network"]
     run = model.replay(it["scenario"].encode(), it["capture"])
     texts = {"out.trace": model.trace(run).encode(), "report": model.report(run).encode(),
              "out.delivered.pcap": model.delivered_capture(run), "out.underlay.pcap": model.underlay_capture(run)}

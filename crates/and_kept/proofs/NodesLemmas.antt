@@ -16,7 +16,7 @@ use Rattle.and_policy.specs.Placements.{ArePlacements}
 use Rattle.and_policy.specs.Programmes.{entries, prefix}
 use Rattle.and_policy.specs.declared.placements.Placements.{Placements}
 use Rattle.and_events.specs.Programming.{Programmes, Logs, Announces, Installs, programmes_after, programme_at, installed_at}
-use Rattle.and_kept.specs.Nodes.{Programmed, with_entry, is_behind, CountsEntries, IsProgrammed, programmes_of, no_programme, node_at, IsProgress}
+use Rattle.and_kept.specs.Nodes.{Programmed, with_op, with_entry, is_behind, CountsEntries, IsProgrammed, programmes_of, no_programme, node_at, IsProgress}
 use Rattle.and_kept.proofs.Counts.{count_none, none_counted}
 
 -- ---- one programme
@@ -31,7 +31,7 @@ entries_short [] = omega arith
 entries_short (ops.Entry x ∷ p) = omega (arith, entries_short p)
 entries_short (ops.Offload o ∷ p) = omega (arith, entries_short p)
 
-prefix_push : (p : List Op) (op : Op) (j : ℕ) → j ≤ length p → prefix (p ++ op ∷ []) j ≡ prefix p j
+pub prefix_push : (p : List Op) (op : Op) (j : ℕ) → j ≤ length p → prefix (p ++ op ∷ []) j ≡ prefix p j
 prefix_push p op j h = ap entries (take-append-le j p (op ∷ []) h)
 
 pub counts_more : (n n' : Programmed) (all announced installed capacity : ℕ) (e : Entry) → IsProgrammed n capacity → CountsEntries n all announced installed → n' ≡ with_entry e n → CountsEntries n' (all + 1) announced installed
@@ -43,9 +43,9 @@ counts_more n n' all announced installed capacity e is counts same =
       installed_are = counts.installed_are ∙ ap length (sym (prefix_push n.ops (ops.Entry e) n.installed (omega (arith, is.installed, is.announced))));
     })
 
-pub programmed_more : (n n' : Programmed) (e : Entry) (capacity capacity' : ℕ) → IsProgrammed n capacity → length n.ops < n.limit → n' ≡ with_entry e n → capacity' ≡ capacity → IsProgrammed n' capacity'
-programmed_more n n' e capacity capacity' is room same kept =
-    let longer = length-append n.ops (ops.Entry e ∷ []) in
+pub programmed_more : (n n' : Programmed) (op : Op) (capacity capacity' : ℕ) → IsProgrammed n capacity → length n.ops < n.limit → n' ≡ with_op op n → capacity' ≡ capacity → IsProgrammed n' capacity'
+programmed_more n n' op capacity capacity' is room same kept =
+    let longer = length-append n.ops (op ∷ []) in
     subst (λ m. IsProgrammed m capacity') (sym same)
     (record {
       installed = is.installed;
@@ -83,7 +83,7 @@ not_behind n e = eqb-true n.installed (length n.ops) (not-false (n.installed == 
 up_to_date : (n : Programmed) → n.installed ≡ length n.ops → is_behind n ≡ false
 up_to_date n e = ap not (eq-eqb n.installed (length n.ops) e)
 
-ops_at : (nodes : List Programmed) (i : ℕ) → i < length nodes → get_or (map (λ n. n.ops) nodes) i [] ≡ (node_at nodes i).ops
+pub ops_at : (nodes : List Programmed) (i : ℕ) → i < length nodes → get_or (map (λ n. n.ops) nodes) i [] ≡ (node_at nodes i).ops
 ops_at nodes i h = get_or-map (λ (n : Programmed). n.ops) nodes i no_programme [] h
 
 installed_there : (nodes : List Programmed) (i : ℕ) → i < length nodes → get_or (map (λ n. n.installed) nodes) i 0 ≡ (node_at nodes i).installed

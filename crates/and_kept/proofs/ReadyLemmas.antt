@@ -1,11 +1,13 @@
 -- The set of the nodes whose installers may act tells the truth after a node has changed and was looked at again.
-use Rattle.std.proofs.Common.{◌≡◌, ◌≢◌, ℕ, ◌+◌, ◌<◌, ◌≤◌, ◌^◌, ◌⊎◌, Bool, false, List, length, set, refl, sym, ap, ◌∙◌, inl, inr, arith, ⊎_elim}
+use Rattle.std.proofs.Common.{◌≡◌, ◌≢◌, ℕ, ◌+◌, ◌<◌, ◌≤◌, ◌^◌, ◌⊎◌, Bool, false, List, [], ◌∷◌, length, set, refl, sym, ap, ◌∙◌, inl, inr, arith, ⊎_elim}
 use Rattle.std.proofs.lemmas.Bool.{cases_eq}
 use Rattle.std.proofs.lemmas.List.{get_or-set_other, length-map, length-set}
 use Rattle.and_policy.specs.declared.entry.Entry.{Entry}
-use Rattle.and_events.specs.Programming.{Programmes, Logs, Announces, Installs, programmes_after}
+use Rattle.and_events.specs.declared.event.Given.{Given}
+use Rattle.and_events.specs.Programming.{Programmes, Logs, Orders, Announces, Installs, programmes_after}
 use Rattle.and_kept.specs.Numbers.{Numbers, has}
 use Rattle.and_kept.specs.Nodes.{is_ready, AreReadied}
+use Rattle.and_kept.proofs.OrdersLemmas.{given_size}
 
 -- what `refresh` ensures
 abbrev pub Refreshed : Programmes → List Bool → Numbers → Numbers → ℕ → ℕ → Type 0
@@ -24,6 +26,10 @@ module _ (p : Programmes) (held : List Bool) (old new : Numbers) (was : AreReadi
   others_install : (n k upto : ℕ) → k ≢ n → is_ready (programmes_after p (Installs n upto)) held k ≡ is_ready p held k
   unfolding is_ready programmes_after
   others_install n k upto other = rw (get_or-set_other p.installed n k upto 0 other) refl
+
+  others_given : (g : Given) (k : ℕ) → k ≢ g.host → is_ready (programmes_after p (Orders (g ∷ []))) held k ≡ is_ready p held k
+  unfolding is_ready programmes_after
+  others_given g k other = rw (get_or-set_other p.ops g.host k _ [] other) refl
 
   others_hold : (n k : ℕ) (on : Bool) → k ≢ n → is_ready p (set held n on) k ≡ is_ready p held k
   unfolding is_ready
@@ -49,6 +55,10 @@ module _ (p : Programmes) (held : List Bool) (old new : Numbers) (was : AreReadi
   unfolding programmes_after
   readied_install p' n upto is size again =
       again_at p' held n (ap (λ (q : Programmes). length q.ops) is) refl (λ k other. ap (λ (q : Programmes). is_ready q held k) is ∙ others_install n k upto other) size again
+
+  pub readied_given : (p' : Programmes) (g : Given) → p' ≡ programmes_after p (Orders (g ∷ [])) → new.size ≡ old.size → Refreshed p' held old new g.host (g.host + 1) → AreReadied p' held new
+  readied_given p' g is size again =
+      again_at p' held g.host (ap (λ (q : Programmes). length q.ops) is ∙ given_size p g) refl (λ k other. ap (λ (q : Programmes). is_ready q held k) is ∙ others_given g k other) size again
 
   pub readied_hold : (held' : List Bool) (n : ℕ) (on : Bool) → held' ≡ set held n on → new.size ≡ old.size → Refreshed p held' old new n (n + 1) → AreReadied p held' new
   readied_hold held' n on is size again =

@@ -8,6 +8,7 @@ use Rattle.and_policy.specs.Placements as placements
 use Rattle.and_policy.specs.Placements.{ArePlacements}
 use Rattle.and_policy.specs.declared.placements.Placements.{Placements}
 use Rattle.and_policy.specs.Programmes.{entries, prefix}
+use Rattle.and_events.specs.declared.event.Given.{Given}
 use Rattle.and_events.specs.Programming.{Programmes, programme_at, announced_at, installed_at}
 use Rattle.and_kept.specs.Numbers.{Numbers, has}
 
@@ -20,9 +21,12 @@ pub record Programmed : Type 0 where
   pub installed : ℕ
   pub limit : ℕ
 
--- with an entry more at its end
+-- with an operation more at its end
+abbrev pub with_op : Op → Programmed → Programmed
+with_op op n = record n { ops = n.ops ++ op ∷ [] }
+
 abbrev pub with_entry : Entry → Programmed → Programmed
-with_entry e n = record n { ops = n.ops ++ ops.Entry e ∷ [] }
+with_entry e = with_op (ops.Entry e)
 
 -- not all of it is installed
 abbrev pub is_behind : Programmed → Bool
@@ -44,14 +48,21 @@ pub record IsProgrammed (n : Programmed) (capacity : ℕ) : Type 0 where
 
 -- ---- all nodes
 
--- the log and the programmes, and how many entries the log has room for
+-- the log and the programmes, how many entries the log has room for, and how many operations each programme has room for
 pub record NodesView : Type 0 where
   pub programmes : Programmes
   pub limit : ℕ
+  pub rooms : List ℕ
 
 abbrev pub programmes_of : List Entry → List Programmed → Programmes
 programmes_of log nodes =
     record { log = log; ops = map (λ n. n.ops) nodes; announced = map (λ n. n.announced) nodes; installed = map (λ n. n.installed) nodes }
+
+abbrev pub rooms_of : List Programmed → List ℕ
+rooms_of nodes = map (λ n. n.limit) nodes
+
+abbrev pub room_at : List ℕ → ℕ → ℕ
+room_at rooms n = slice_index_or rooms n 0
 
 abbrev pub no_programme : Programmed
 no_programme = record { ops = []; announced = 0; installed = 0; limit = 0 }
@@ -71,10 +82,12 @@ pub record IsProgress (log : List Entry) (nodes : List Programmed) (p : Placemen
 
 -- ---- who may announce or install
 
--- the log and the programmes, how many entries the log has room for, and at which nodes installs are held
+-- the log and the programmes, how many entries the log has room for, how many operations each programme has room for, and at
+-- which nodes installs are held
 pub record Progressed : Type 0 where
   pub programmes : Programmes
   pub limit : ℕ
+  pub rooms : List ℕ
   pub held : List Bool
 
 -- the installer of the node at this place may announce, or has announced something that is not installed
@@ -89,3 +102,21 @@ pub record AreReadied (p : Programmes) (marks : List Bool) (ready : Numbers) : T
   pub held : length marks ≡ length p.ops
   pub size : ready.size ≡ length p.ops
   pub told : (k : ℕ) → k < length p.ops → has ready k ≡ is_ready p marks k
+
+-- ---- orders
+
+-- beside the entries that the log still has room for, the node's programme has room for so many operations more
+abbrev pub HasRoomFor : NodesView → ℕ → ℕ → Type 0
+HasRoomFor v count node =
+    length (programme_at v.programmes node) + (v.limit - length v.programmes.log) + count ≤ room_at v.rooms node
+
+-- each order's host has room for all of the orders
+abbrev pub HaveRoom : NodesView → List Given → Type 0
+HaveRoom v orders = All (λ g. HasRoomFor v (length orders) g.host) orders
+
+abbrev pub nodes_in : Progressed → NodesView
+nodes_in v = record { programmes = v.programmes; limit = v.limit; rooms = v.rooms }
+
+-- each order's host has room for all of the orders, beside the entries that the log still has room for
+pub record HasOrderRoom (v : Progressed) (orders : List Given) : Type 0 where
+  pub fits : HaveRoom (nodes_in v) orders

@@ -7,7 +7,8 @@
 //!
 //! Counts of what is not empty, not free or not installed are kept beside the parts, so that no question about all of
 //! them takes a pass; and so are the set of the nodes whose installers may act and the set of the hands that have work. A set
-//! is looked at a word of 64 numbers at a time. No call but `make` takes memory.
+//! is looked at a word of 64 numbers at a time. No call takes memory but `make` and `Progress::room_for`, which makes room for
+//! offload orders in their hosts' programmes before a review gives them.
 //!
 //! It stands on `and_events`, whose components these are, on `and_parcel` for the parcels, on `and_ports` for the ports of
 //! the VMs, and on `and_policy` for the entries of the log.

@@ -1,20 +1,23 @@
 //! The log and the nodes' programmes.
-ghost use Rattle.std.specs.Prelude.{◌≡◌, ℕ, ◌+◌, ◌-◌, ◌<◌, ◌≤◌, ◌↔◌, ◌^◌, List, [], ◌∷◌, ◌++◌, length, map, true, IsTrue, IfOk, replicate, slice_set};
+ghost use Rattle.std.specs.Prelude.{◌≡◌, ℕ, ◌+◌, ◌-◌, ◌<◌, ◌≤◌, ◌↔◌, ◌^◌, List, [], ◌∷◌, ◌++◌, length, map, true, IsTrue, IfOk, OnOk, replicate, slice_set};
 ghost use Rattle.std.specs.List.{All};
+ghost use Rattle.and_policy.specs.declared.entry.Op.TheVariants as ops;
 ghost use Rattle.and_policy.specs.Owners as owners;
 ghost use Rattle.and_policy.specs.Programmes as programmes;
-ghost use Rattle.and_events.specs.Programming.{Logs, Announces, Installs, HasInstalled, programmes_after, programme_at, announced_at, installed_at};
-ghost use Rattle.and_kept.specs.Nodes.{Programmed, with_entry, is_behind, node_at};
+ghost use Rattle.and_events.specs.Programming.{Logs, Orders, Announces, Installs, HasInstalled, programmes_after, programme_at, announced_at, installed_at};
+ghost use Rattle.and_kept.specs.Nodes.{Programmed, with_entry, with_op, is_behind, node_at, room_at, HasRoomFor, HaveRoom};
 
 use crate::count::one_if;
 use crate::programme::Programme;
-use and_policy::{Entry, NoMemory, Op, Placements};
+use and_events::Given;
+use and_policy::{Entry, NoMemory, Op, Order, Placements};
 use std::alloc::Global;
 use std::marker::Model;
 
 /// The log, and each node's programme with how much of it is announced and installed. Nodes go by their places.
 ///
-/// Contracts see it as the definition's component, beside the number of entries that the log has room for.
+/// Contracts see it as the definition's component, beside the number of entries that the log has room for and, by node, of
+/// operations that the programme has room for.
 #[derive(Drop)]
 pub(crate) struct Nodes {
     log: Vec<Entry>,
@@ -26,11 +29,11 @@ pub(crate) struct Nodes {
 
 impl Model for Nodes {
     ghost use Rattle.std.specs.Prelude.{vec_capacity};
-    ghost use Rattle.and_kept.specs.Nodes.{NodesView, programmes_of, IsProgress};
+    ghost use Rattle.and_kept.specs.Nodes.{NodesView, programmes_of, rooms_of, IsProgress};
 
     ghost Value = { NodesView };
 
-    ghost view = { λ p. record { programmes = programmes_of p.log.items p.nodes.items; limit = p.limit } };
+    ghost view = { λ p. record { programmes = programmes_of p.log.items p.nodes.items; limit = p.limit; rooms = rooms_of p.nodes.items } };
 
     ghost invariant = { λ p. IsProgress p.log.items p.nodes.items p.placements p.behind p.limit (vec_capacity p.log) };
 }
@@ -141,6 +144,51 @@ impl Nodes {
         self.placements.append(&entry);
     }
 
+    /// Room for these orders, each in its host's programme, beside the log's entries that are still to come.
+    ///
+    /// # Errors
+    ///
+    /// Where memory is wanting; the programmes and the limit are as before.
+    pub(crate) fn room_for(&mut self, orders: &[Given]) -> Result<(), NoMemory>
+        requires hosts { All (λ g. g.host < length self.old.programmes.ops) orders.now }
+        requires small { All (λ g. length (programme_at self.old.programmes g.host) + self.old.limit + length orders.now < 2 ^ 32) orders.now }
+        ensures programmes { self.new.programmes ≡ self.old.programmes }
+        ensures limit { self.new.limit ≡ self.old.limit }
+        ensures room { OnOk result (HaveRoom self.new orders.now) }
+    {
+        for given in orders {
+            self.make_room(given.host as usize, orders.len() as u32)?;
+        }
+        Ok(())
+    }
+
+    // Room for so many operations more at the node.
+    fn make_room(&mut self, node: usize, count: u32) -> Result<(), NoMemory>
+        requires node { node < length self.old.programmes.ops }
+        requires small { length (programme_at self.old.programmes node) + self.old.limit + count < 2 ^ 32 }
+        ensures programmes { self.new.programmes ≡ self.old.programmes }
+        ensures limit { self.new.limit ≡ self.old.limit }
+        ensures never_less { (k : ℕ) → room_at self.old.rooms k ≤ room_at self.new.rooms k }
+        ensures room { OnOk result (HasRoomFor self.new count node) }
+    {
+        let to_come = self.limit - self.log.len() as u32;
+        make_room_in(&mut self.nodes, node, to_come + count)
+    }
+
+    /// The order goes to the end of its host's programme. Takes no memory.
+    pub(crate) fn give(&mut self, given: Given)
+        requires host { given.host < length self.old.programmes.ops }
+        requires room { HasRoomFor self.old 1 given.host }
+        ensures programmes { self.new.programmes ≡ programmes_after self.old.programmes (Orders (given ∷ [])) }
+        ensures limit { self.new.limit ≡ self.old.limit }
+        ensures rooms { self.new.rooms ≡ self.old.rooms }
+    {
+        let host = given.host as usize;
+        let was_behind = is_behind_at(&self.nodes, host);
+        give_at(&mut self.nodes, host, given.order);
+        self.behind = self.behind - one_if(was_behind) + 1;
+    }
+
     /// The node announces how long its programme is.
     pub(crate) fn announce(&mut self, node: usize) -> u32
         requires { node < length self.old.programmes.ops }
@@ -201,6 +249,29 @@ fn push_at(nodes: &mut Vec<Programme>, node: usize, entry: Entry)
 {
     let programme = &mut nodes[node];
     programme.push(entry);
+}
+
+// Room for so many operations more in the node's programme.
+fn make_room_in(nodes: &mut Vec<Programme>, node: usize, count: u32) -> Result<(), NoMemory>
+    requires node { node < length nodes.old.items }
+    requires small { length (node_at nodes.old.items node).ops + count < 2 ^ 32 }
+    ensures nodes { nodes.new.items ≡ slice_set nodes.old.items node (record (node_at nodes.old.items node) { limit = (node_at nodes.new.items node).limit }) }
+    ensures never_less { (node_at nodes.old.items node).limit ≤ (node_at nodes.new.items node).limit }
+    ensures room { OnOk result (length (node_at nodes.old.items node).ops + count ≤ (node_at nodes.new.items node).limit) }
+{
+    let programme = &mut nodes[node];
+    programme.room_for(count)
+}
+
+// The node's programme gets the order.
+fn give_at(nodes: &mut Vec<Programme>, node: usize, order: Order)
+    requires node { node < length nodes.old.items }
+    requires room { length (node_at nodes.old.items node).ops < (node_at nodes.old.items node).limit }
+    ensures nodes { nodes.new.items ≡ slice_set nodes.old.items node (with_op (ops.Offload order) (node_at nodes.old.items node)) }
+    ensures behind { is_behind (node_at nodes.new.items node) ≡ true }
+{
+    let programme = &mut nodes[node];
+    programme.give(order);
 }
 
 // Whether not all of the node's programme is installed.

@@ -1,9 +1,10 @@
 //! One node's programme.
-ghost use Rattle.std.specs.Prelude.{◌≡◌, ◌<◌, ◌^◌, [], length, true, IfOk};
+ghost use Rattle.std.specs.Prelude.{◌≡◌, ◌+◌, ◌<◌, ◌≤◌, ◌^◌, [], length, true, IfOk, OnOk};
 ghost use Rattle.and_policy.specs.Programmes.{prefix};
-ghost use Rattle.and_kept.specs.Nodes.{with_entry, is_behind};
+ghost use Rattle.and_policy.specs.declared.entry.Op.TheVariants as ops;
+ghost use Rattle.and_kept.specs.Nodes.{with_entry, with_op, is_behind};
 
-use and_policy::{Entry, NoMemory, Op};
+use and_policy::{Entry, NoMemory, Op, Order};
 use std::alloc::Global;
 use std::marker::Model;
 
@@ -95,6 +96,35 @@ impl Programme {
     {
         self.ops.push_reserved(Op::Entry(entry));
         self.entry_count += 1;
+    }
+
+    /// Room for so many operations more.
+    ///
+    /// # Errors
+    ///
+    /// Where memory is wanting. No room is lost then.
+    pub(crate) fn room_for(&mut self, count: u32) -> Result<(), NoMemory>
+        requires { length self.old.ops + count < 2 ^ 32 }
+        ensures programme { self.new ≡ record self.old { limit = self.new.limit } }
+        ensures never_less { self.old.limit ≤ self.new.limit }
+        ensures ok { OnOk result (length self.new.ops + count ≤ self.new.limit) }
+    {
+        let needed = self.ops.len() as u32 + count;
+        if needed <= self.limit {
+            return Ok(());
+        }
+        self.ops.reserve(count as usize).map_err(|_| NoMemory)?;
+        self.limit = needed;
+        Ok(())
+    }
+
+    /// The programme gets an offload order, which is no entry of the log.
+    pub(crate) fn give(&mut self, order: Order)
+        requires { length self.old.ops < self.old.limit }
+        ensures programme { self.new ≡ with_op (ops.Offload order) self.old }
+        ensures behind { is_behind self.new ≡ true }
+    {
+        self.ops.push_reserved(Op::Offload(order));
     }
 
     /// All of it is announced.

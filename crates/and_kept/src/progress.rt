@@ -1,6 +1,7 @@
 //! The log and the nodes' programmes, and whose installers may act.
-ghost use Rattle.std.specs.Prelude.{◌≡◌, ℕ, ◌<◌, ◌≤◌, ◌⊎◌, ◌↔◌, ◌^◌, [], length, true, false, IsTrue, IfOk, replicate, slice_set};
-ghost use Rattle.and_events.specs.Programming.{Logs, Announces, Installs, HasInstalled, programmes_after, programme_at, announced_at, installed_at};
+ghost use Rattle.std.specs.Prelude.{◌≡◌, ℕ, ◌+◌, ◌<◌, ◌≤◌, ◌⊎◌, ◌↔◌, ◌^◌, [], ◌∷◌, length, true, false, IsTrue, IfOk, OnOk, replicate, slice_set};
+ghost use Rattle.std.specs.List.{All};
+ghost use Rattle.and_events.specs.Programming.{Logs, Orders, Announces, Installs, HasInstalled, programmes_after, programme_at, announced_at, installed_at};
 ghost use Rattle.and_kept.specs.Nodes as spec;
 ghost use Rattle.and_kept.specs.Numbers.{has, count_below};
 ghost use Rattle.and_policy.specs.Owners as owners;
@@ -9,6 +10,7 @@ ghost use Rattle.and_policy.specs.Programmes as programmes;
 use crate::count::no_marks;
 use crate::nodes::Nodes;
 use crate::numbers::NumberSet;
+use and_events::Given;
 use and_policy::{Entry, NoMemory, Op};
 use std::alloc::Global;
 use std::marker::Model;
@@ -16,7 +18,8 @@ use std::marker::Model;
 /// The log, and each node's programme with how much of it is announced and installed; at which nodes installs are held; and
 /// the set of the nodes whose installers may act, which is kept where one of these changes. Nodes go by their places.
 ///
-/// Contracts see it as the definition's components, beside the number of entries that the log has room for.
+/// Contracts see it as the definition's components, beside the number of entries that the log has room for and, by node, of
+/// operations that the programme has room for.
 #[derive(Drop)]
 pub struct Progress {
     nodes: Nodes,
@@ -29,7 +32,7 @@ impl Model for Progress {
 
     ghost Value = { Progressed };
 
-    ghost view = { λ p. record { programmes = p.nodes.programmes; limit = p.nodes.limit; held = p.held.items } };
+    ghost view = { λ p. record { programmes = p.nodes.programmes; limit = p.nodes.limit; rooms = p.nodes.rooms; held = p.held.items } };
 
     ghost invariant = { λ p. AreReadied p.nodes.programmes p.held.items p.ready };
 }
@@ -182,6 +185,50 @@ impl Progress {
         self.nodes.append(entry);
         let count = self.held.len() as u32;
         refresh(&self.nodes, &self.held, &mut self.ready, (0, count));
+    }
+
+    /// Room for these orders, each in its host's programme, beside the log's entries that are still to come.
+    ///
+    /// # Errors
+    ///
+    /// Where memory is wanting; programmes, limit and holds are as before.
+    pub fn room_for(&mut self, alloc: Global, orders: &[Given]) -> Result<(), NoMemory>
+        requires hosts { All (λ g. g.host < length self.old.programmes.ops) orders.now }
+        requires small { All (λ g. length (programme_at self.old.programmes g.host) + self.old.limit + length orders.now < 2 ^ 32) orders.now }
+        ensures programmes { self.new.programmes ≡ self.old.programmes }
+        ensures limit { self.new.limit ≡ self.old.limit }
+        ensures held { self.new.held ≡ self.old.held }
+        ensures room { OnOk result (spec.HasOrderRoom self.new orders.now) }
+    {
+        let _ = alloc;
+        self.nodes.room_for(orders)
+    }
+
+    /// Each order goes to the end of its host's programme. Takes no memory.
+    pub fn give(&mut self, orders: &[Given])
+        requires hosts { All (λ g. g.host < length self.old.programmes.ops) orders.now }
+        requires room { spec.HasOrderRoom self.old orders.now }
+        ensures programmes { self.new.programmes ≡ programmes_after self.old.programmes (Orders orders.now) }
+        ensures limit { self.new.limit ≡ self.old.limit }
+        ensures held { self.new.held ≡ self.old.held }
+    {
+        for given in orders {
+            self.give_one(*given);
+        }
+    }
+
+    // One order goes to the end of its host's programme, and the host is looked at again.
+    fn give_one(&mut self, given: Given)
+        requires host { given.host < length self.old.programmes.ops }
+        requires room { spec.HasOrderRoom self.old (given ∷ []) }
+        ensures programmes { self.new.programmes ≡ programmes_after self.old.programmes (Orders (given ∷ [])) }
+        ensures limit { self.new.limit ≡ self.old.limit }
+        ensures rooms { self.new.rooms ≡ self.old.rooms }
+        ensures held { self.new.held ≡ self.old.held }
+    {
+        self.nodes.give(given);
+        let host = given.host;
+        refresh(&self.nodes, &self.held, &mut self.ready, (host, host + 1));
     }
 
     /// The node announces how long its programme is.

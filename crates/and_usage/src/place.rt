@@ -61,7 +61,8 @@ pub(crate) fn add_to(used: &mut Vec<Used>, key: UsageKey, bytes: u64)
     requires ordered { Ascends used_before used.old.items }
     requires sum { bytes_of key used.old.items + bytes < 2 ^ 64 }
     ensures items { used.new.items ≡ with_use key bytes used.old.items }
-    ensures room { vec_capacity used.old + vec_len used.new ≤ vec_capacity used.new + vec_len used.old + 1 }
+    ensures len { vec_len used.new ≤ vec_len used.old + 1 }
+    ensures capacity { vec_capacity used.old ≤ vec_capacity used.new }
 {
     let at = place_of(used, &key);
     if stands(used, at, &key) {

@@ -1,5 +1,5 @@
 //! The usage since the last review.
-ghost use Rattle.std.specs.Prelude.{◌≡◌, ◌<◌, ◌≤◌, ◌+◌, ◌^◌, [], IfOk, OnOk};
+ghost use Rattle.std.specs.Prelude.{◌≡◌, ◌<◌, ◌≤◌, ◌+◌, ◌^◌, [], length, IfOk, OnOk};
 ghost use Rattle.and_events.specs.Usage.{Cleared, Uses, usage_after};
 ghost use Rattle.and_usage.specs.Counting.{bytes_of, keys_over};
 
@@ -73,12 +73,13 @@ impl Usage {
         self.used.reserve(n as usize).map_err(|_| NoMemory)
     }
 
-    /// So many bytes more for the key. Takes no memory.
+    /// So many bytes more for the key. Takes no memory, and leaves room for as many keys in all: a key that is there takes none.
     pub fn add(&mut self, key: UsageKey, bytes: u64)
         requires spare { 0 < self.old.spare }
         requires sum { bytes_of key self.old.used + bytes < 2 ^ 64 }
         ensures used { self.new.used ≡ usage_after self.old.used (Uses key bytes) }
         ensures spare { self.old.spare ≤ self.new.spare + 1 }
+        ensures room { self.old.spare + length self.old.used ≤ self.new.spare + length self.new.used }
     {
         add_to(&mut self.used, key, bytes);
     }
@@ -94,10 +95,11 @@ impl Usage {
         over_in(alloc, &self.used, threshold)
     }
 
-    /// A review begins anew. The room stays, and no memory is taken.
+    /// A review begins anew. There is room for as many keys in all, and no memory is taken.
     pub fn clear(&mut self)
         ensures used { self.new.used ≡ usage_after self.old.used Cleared }
         ensures spare { self.old.spare ≤ self.new.spare }
+        ensures room { self.old.spare + length self.old.used ≤ self.new.spare + length self.new.used }
     {
         self.used.clear();
     }

@@ -1,0 +1,3 @@
+mod Ticks
+mod Begun
+mod Keyed

@@ -70,7 +70,7 @@ net_more plan k (entry_kinds.Place v h) vm is fit = absurd is
 net_more plan k (entry_kinds.DelRule net number) vm is fit = fit
 net_more plan k (entry_kinds.AddRoute net r) vm is fit = fit
 net_more plan k (entry_kinds.DelRoute net number) vm is fit = fit
-net_more plan k entry_kinds.Tick vm is fit = absurd is
+net_more plan k entry_kinds.Tick vm is fit = fit
 
 net_fits : (plan : Plan) (k : List Entry) (vm : ℕ) → All (IsKnown plan) k → net_in k vm ≤ 16777215
 net_fits plan [] vm known = omega arith

@@ -74,7 +74,7 @@ module _ (plan : Plan) (h : List Event) (sound : IsSound plan) (built : IsBuilt 
   does_due (Some (steps.Inject i)) told can = (steps.Inject i, refl, (can.0, can.1, can.2, can.3))
   does_due (Some steps.Wait) told can = (steps.Wait, refl, rests plan h sound r can)
   does_due (Some steps.Finish) told can = (steps.Finish, refl, ends plan h sound r (ends_free told) no_pins can)
-  does_due (Some steps.Review) told can = absurd can
+  does_due (Some steps.Review) told can = (steps.Review, refl, tt)
   does_due (Some (steps.Blackout vm host)) told can = absurd can
   does_due (Some (steps.Resume vm)) told can = absurd can
   does_due None told can = absurd can
@@ -86,7 +86,7 @@ module _ (plan : Plan) (h : List Event) (sound : IsSound plan) (built : IsBuilt 
   did_step (steps.Inject i) b can = (can.0, can.1, can.2, can.3)
   did_step steps.Wait b can = rested plan h sound r can
   did_step steps.Finish b can = ended plan h sound r can
-  did_step steps.Review b can = absurd b
+  did_step steps.Review b can = tt
   did_step (steps.Blackout vm host) b can = absurd b
   did_step (steps.Resume vm) b can = absurd b
 

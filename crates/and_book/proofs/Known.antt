@@ -7,7 +7,7 @@ use Rattle.and_policy.specs.declared.entry.Entry.{Entry}
 use Rattle.and_policy.specs.declared.entry.Entry.TheVariants as entries
 use Rattle.and_events.specs.declared.event.Event.{Event}
 use Rattle.and_events.specs.declared.plan.Step.{Step}
-use Rattle.and_events.specs.declared.plan.Step.TheVariants.{Append, Hold, Free, Wait, Inject, Finish}
+use Rattle.and_events.specs.declared.plan.Step.TheVariants.{Append, Review, Hold, Free, Wait, Inject, Finish}
 use Rattle.and_events.specs.declared.plan.Plan.{Plan}
 use Rattle.and_events.specs.Script.{Script, at_start}
 use Rattle.and_events.specs.Sound.{IsSound, StepFits, StepsFit, after_step, sent_after, IsBuilt, IsBuiltStep, IsBuiltEntry}
@@ -25,6 +25,7 @@ IsKnown plan (entries.AddRule net rule) = rule.sealed ≡ false
 IsKnown plan (entries.DelRule net number) = Unit {0}
 IsKnown plan (entries.AddRoute net route) = Unit {0}
 IsKnown plan (entries.DelRoute net number) = Unit {0}
+IsKnown plan entries.Tick = Unit {0}
 IsKnown plan _ = ⊥
 
 known_entry : (plan : Plan) (p : Script) (sent : ℕ) (e : Entry) → StepFits plan p sent (Append e) → IsBuiltEntry e → IsKnown plan e
@@ -36,11 +37,12 @@ known_entry plan p sent (entries.AddRoute net route) f built = tt
 known_entry plan p sent (entries.DelRoute net number) f built = tt
 known_entry plan p sent (entries.RemoveVm vm) f built = absurd built
 known_entry plan p sent (entries.Place vm host) f built = absurd built
-known_entry plan p sent entries.Tick f built = absurd built
+known_entry plan p sent entries.Tick f built = tt
 
 -- one step more of the script
 known_step : (plan : Plan) (p : Script) (sent : ℕ) (step : Step) → StepFits plan p sent step → IsBuiltStep step → All (IsKnown plan) p.log → All (IsKnown plan) (after_step p step).log
 known_step plan p sent (Append e) f built known = All-push (IsKnown plan) p.log e known (known_entry plan p sent e f built)
+known_step plan p sent Review f built known = known
 known_step plan p sent (Hold node what) f built known = known
 known_step plan p sent (Free node what) f built known = known
 known_step plan p sent Wait f built known = known

@@ -41,7 +41,7 @@ host_known plan (entry_kinds.Place v h) vm host known is = absurd known
 host_known plan (entry_kinds.DelRule net number) vm host known is = absurd (cc)
 host_known plan (entry_kinds.AddRoute net r) vm host known is = absurd (cc)
 host_known plan (entry_kinds.DelRoute net number) vm host known is = absurd (cc)
-host_known plan entry_kinds.Tick vm host known is = absurd known
+host_known plan entry_kinds.Tick vm host known is = absurd (cc)
 
 either : (a b : Option ℕ) (host : ℕ) (P : Type 0) → (a ≡ Some host → P) → (b ≡ Some host → P) → or_else a b ≡ Some host → P
 either (Some x) b host P f g e = f e
@@ -77,7 +77,7 @@ fits_entry plan (entry_kinds.Place v h) later known fit = absurd known
 fits_entry plan (entry_kinds.DelRule net number) later known fit = fit
 fits_entry plan (entry_kinds.AddRoute net r) later known fit = fit
 fits_entry plan (entry_kinds.DelRoute net number) later known fit = fit
-fits_entry plan entry_kinds.Tick later known fit = absurd known
+fits_entry plan entry_kinds.Tick later known fit = fit
 
 vms_fit : (plan : Plan) (k : List Entry) → All (IsKnown plan) k → All (λ (v : Vm). v.net ≤ 16777215) (vms k)
 vms_fit plan [] known = All-nil (λ (v : Vm). v.net ≤ 16777215)

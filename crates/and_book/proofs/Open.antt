@@ -43,7 +43,7 @@ rules_more plan (entry_kinds.Place v h) later net known all = absurd known
 rules_more plan (entry_kinds.DelRule n number) later net known all = all
 rules_more plan (entry_kinds.AddRoute n r) later net known all = all
 rules_more plan (entry_kinds.DelRoute n number) later net known all = all
-rules_more plan entry_kinds.Tick later net known all = absurd known
+rules_more plan entry_kinds.Tick later net known all = all
 
 open_rules : (plan : Plan) (k : List Entry) (net : ℕ) → All (IsKnown plan) k → All IsOpen (rules k net)
 open_rules plan [] net known = All-nil IsOpen

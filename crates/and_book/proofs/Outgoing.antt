@@ -16,7 +16,7 @@ use Rattle.and_events.specs.declared.event.Actor.{Actor}
 use Rattle.and_events.specs.declared.event.Actor.TheVariants.{HostInstall, GateInstall, Worker, Coproc, Gateway, Controller, Driver}
 use Rattle.and_events.specs.declared.event.Endpoint.{Endpoint}
 use Rattle.and_events.specs.declared.event.Event.{Event}
-use Rattle.and_events.specs.declared.event.Event.TheVariants.{Append, Hold, Free, Inject, Wait, Finish, Announce, Installed, Take}
+use Rattle.and_events.specs.declared.event.Event.TheVariants.{Append, Review, Hold, Free, Inject, Wait, Finish, Announce, Installed, Take}
 use Rattle.and_events.specs.declared.event.Held.{Held}
 use Rattle.and_events.specs.declared.event.Node.{Node}
 use Rattle.and_events.specs.declared.event.Node.TheVariants.{Host, Gate}
@@ -390,6 +390,7 @@ settles plan h e a need q p here x m roads roads' sound built r legal ok has sta
 
 abbrev pub MovesNone : Event → Type 0
 MovesNone (Append n) = Unit {0}
+MovesNone (Review n) = Unit {0}
 MovesNone (Hold n) = Unit {0}
 MovesNone (Free n) = Unit {0}
 MovesNone (Wait n) = Unit {0}
@@ -401,6 +402,7 @@ MovesNone _ = ⊥
 stays : (plan : Plan) (s : State) (e : Event) → MovesNone e → move_of plan s e ≡ Stay
 unfolding move_of
 stays plan s (Append n) t = refl
+stays plan s (Review n) t = refl
 stays plan s (Hold n) t = refl
 stays plan s (Free n) t = refl
 stays plan s (Wait n) t = refl

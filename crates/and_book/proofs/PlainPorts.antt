@@ -51,7 +51,7 @@ after_entry ports (entry_kinds.Place vm host) built plain = absurd built
 after_entry ports (entry_kinds.DelRule net number) built plain = plain
 after_entry ports (entry_kinds.AddRoute net route) built plain = plain
 after_entry ports (entry_kinds.DelRoute net number) built plain = plain
-after_entry ports entry_kinds.Tick built plain = absurd built
+after_entry ports entry_kinds.Tick built plain = plain
 
 -- the step of an append, as the state has it
 after_append : (s : State) (o : Option Step) (e : Entry) → o ≡ Some (steps.Append e) → IsBuiltEntry e → ArePlain s.ports → ArePlain (ports_after s.ports (ports_move_of_step s o))

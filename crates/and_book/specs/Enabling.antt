@@ -5,7 +5,7 @@ use Rattle.and_events.specs.declared.event.Actor.{Actor}
 use Rattle.and_events.specs.declared.event.Actor.TheVariants.{HostInstall, GateInstall, Controller, Driver}
 use Rattle.and_events.specs.declared.plan.Packet.{Packet}
 use Rattle.and_events.specs.declared.plan.Step.{Step}
-use Rattle.and_events.specs.declared.plan.Step.TheVariants.{Append, Hold, Free, Inject, Wait, Finish}
+use Rattle.and_events.specs.declared.plan.Step.TheVariants.{Append, Review, Hold, Free, Inject, Wait, Finish}
 use Rattle.and_events.specs.declared.plan.What.{What}
 use Rattle.and_events.specs.declared.plan.What.TheVariants.{Install, Forward}
 use Rattle.and_events.specs.declared.plan.Settings.{Settings}
@@ -40,6 +40,7 @@ vm_in packets i = (slice_index_or packets i no_packet).vm
 -- the step's condition
 abbrev pub CanDo : Settings → List Packet → Programmes → NodeHolds → Flow → Option Step → Type 0
 CanDo v packets p m f (Some (Append e)) = Unit {0}
+CanDo v packets p m f (Some Review) = Unit {0}
 CanDo v packets p m f (Some (Hold node what)) = MayHold p (node_place v node) what
 CanDo v packets p m f (Some (Free node what)) = Unit {0}
 CanDo v packets p m f (Some (Inject i)) = IsKnownAtHome p v.hosts (vm_in packets i)

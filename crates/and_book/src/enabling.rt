@@ -66,6 +66,7 @@ pub(crate) fn can_do(
 {
     match due {
         Some(Step::Append(_)) => true,
+        Some(Step::Review) => true,
         Some(Step::Hold { node, what }) => {
             may_hold(progress, node_place(traffic.settings(), node), what)
         }

@@ -35,7 +35,7 @@ abbrev pub holds_of : Kept → NodeHolds
 holds_of k = record { install = k.progress.held; forward = k.roads.held }
 
 abbrev pub view_of : Inside → BookView
-view_of b = record { plan = b.plan; threads = b.threads; lines = b.lines.items; spare = vec_capacity b.lines - vec_len b.lines }
+view_of b = record { plan = b.plan; threads = b.threads; lines = b.lines.items; spare = vec_capacity b.lines - vec_len b.lines; prepared = b.prepared }
 
 -- it is that part of the state
 pub record Stands (k : Kept) (s : State) : Type 0 where

@@ -19,12 +19,14 @@ use Rattle.and_events.specs.Run.{past}
 use Rattle.and_laws.specs.Fates.{in_hand_count}
 use Rattle.and_kept.specs.Moves.{source_in}
 
--- the plan, the number of threads, the lines from the oldest on, and how many more take no memory
+-- the plan, the number of threads, the lines from the oldest on, how many more take no memory, and whether the orders of a review
+-- of the usage so far are found and have room
 pub record BookView : Type 0 where
   pub plan : Plan
   pub threads : ℕ
   pub lines : List Line
   pub spare : ℕ
+  pub prepared : Bool
 
 -- the state after the lines
 abbrev pub now : BookView → State
@@ -38,9 +40,9 @@ held b = in_hand_count (now b).flow
 abbrev pub IsSeat : BookView → ℕ → Actor → Type 0
 IsSeat b seat a = seat ≡ seat_of b.threads b.plan.settings a
 
--- the book with one line more
+-- the book with one line more, which is no longer prepared for a review
 abbrev pub with_line : BookView → ℕ → Event → BookView
-with_line b seat e = record b { lines = b.lines ++ record { seat = seat; event = e } ∷ []; spare = b.spare - 1 }
+with_line b seat e = record b { lines = b.lines ++ record { seat = seat; event = e } ∷ []; spare = b.spare - 1; prepared = false }
 
 -- the actor may take a packet: its hand is empty, forwarding at its node is not held, and its queue has one
 pub record MayTake (plan : Plan) (s : State) (a : Actor) : Type 0 where

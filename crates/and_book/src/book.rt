@@ -1,6 +1,7 @@
 //! The book.
 ghost use Rattle.std.specs.List.{All};
-ghost use Rattle.std.specs.Prelude.{◌≡◌, ◌+◌, ◌^◌, ◌<◌, ◌≤◌, [], length, IfOk, OnOk};
+ghost use Rattle.std.specs.Prelude.{◌≡◌, ◌+◌, ◌^◌, ◌<◌, ◌≤◌, ◌++◌, ◌∷◌, [], false, length, IfOk, OnOk};
+ghost use Rattle.std.specs.Vec.{vec_len, vec_capacity};
 ghost use Rattle.and_events.specs.Places.{actor_of, seat_of};
 ghost use Rattle.and_events.specs.Run.{Run, past};
 ghost use Rattle.and_events.specs.Sound.{IsSound, IsBuilt};
@@ -8,7 +9,7 @@ ghost use Rattle.and_laws.specs.Fates.{HasOneFateOrPlace};
 ghost use Rattle.and_book.specs.Tales.{newest_first, KeepSeats};
 ghost use Rattle.and_book.specs.Views.{held};
 
-use and_events::{Line, Plan};
+use and_events::{Event, Line, Plan};
 use and_kept::{Progress, Traffic, count_hands, count_nodes};
 use and_policy::NoMemory;
 use and_ports::Ports;
@@ -22,6 +23,7 @@ pub struct Book {
     pub(crate) plan: Plan,
     pub(crate) threads: u32,
     pub(crate) lines: Vec<Line>,
+    pub(crate) prepared: bool,
     pub(crate) next: u32,
     pub(crate) progress: Progress,
     pub(crate) ports: Ports,
@@ -58,8 +60,8 @@ impl Tale for Book {
 }
 
 impl Book {
-    /// A book without lines. It takes all the memory that the parts of the state ever want; lines get theirs by
-    /// [`Book::room`]. After want of memory the plan is gone. `threads` is the number of threads: the seat of an actor is
+    /// A book without lines, prepared for no review. It takes all the memory that the parts of the state ever want; lines get theirs
+    /// by [`Book::room`], and the orders of a review by [`Book::prepare`]. After want of memory the plan is gone. `threads` is the number of threads: the seat of an actor is
     /// 1 + its number modulo `threads`. 0 means no threads, and then every actor has seat 0.
     pub fn make(alloc: Global, plan: Plan, threads: u32) -> Result<Book, NoMemory>
         requires sound { IsSound plan }
@@ -67,6 +69,7 @@ impl Book {
         ensures plan { IfOk result (λ b. b.plan ≡ plan) }
         ensures threads { IfOk result (λ b. b.threads ≡ threads) }
         ensures lines { IfOk result (λ b. b.lines ≡ []) }
+        ensures prepared { IfOk result (λ b. b.prepared ≡ false) }
     {
         let settings = plan.settings;
         let traffic = Traffic::make(alloc, settings, plan.packets.len())?;
@@ -77,6 +80,7 @@ impl Book {
             plan,
             threads,
             lines: Vec::new(alloc),
+            prepared: false,
             next: 0,
             progress,
             ports,
@@ -90,6 +94,7 @@ impl Book {
         ensures lines { self.new.lines ≡ self.old.lines }
         ensures plan { self.new.plan ≡ self.old.plan }
         ensures threads { self.new.threads ≡ self.old.threads }
+        ensures prepared { self.new.prepared ≡ self.old.prepared }
         ensures room { OnOk result (held self.new + n ≤ self.new.spare) }
     {
         let _ = alloc;
@@ -137,4 +142,16 @@ impl Book {
     {
         let _ = &self.next;
     }
+}
+
+/// A line more, for which there is room. Whatever the book was prepared for is over.
+pub(crate) fn note(lines: &mut Vec<Line>, prepared: &mut bool, seat: u32, event: Event)
+    requires { vec_len lines.old < vec_capacity lines.old }
+    ensures items { lines.new.items ≡ lines.old.items ++ record { seat = seat; event = event } ∷ [] }
+    ensures len { vec_len lines.new ≡ vec_len lines.old + 1 }
+    ensures capacity { vec_capacity lines.new ≡ vec_capacity lines.old }
+    ensures prepared { prepared.new ≡ false }
+{
+    lines.push_reserved(Line { seat, event });
+    *prepared = false;
 }

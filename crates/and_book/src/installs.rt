@@ -5,8 +5,8 @@ ghost use Rattle.and_events.specs.Places.{installer_of};
 ghost use Rattle.and_events.specs.State.{programme_of, announced_of};
 ghost use Rattle.and_book.specs.Views.{now, held, IsSeat, with_line};
 
-use crate::book::Book;
-use and_events::{Event, Line, Node, node_place};
+use crate::book::{Book, note};
+use and_events::{Event, Node, node_place};
 
 impl Book {
     /// The node's installer announces how long its programme is.
@@ -18,10 +18,12 @@ impl Book {
     {
         let place = node_place(self.plan.settings, node);
         let upto = self.progress.announce(place);
-        self.lines.push_reserved(Line {
+        note(
+            &mut self.lines,
+            &mut self.prepared,
             seat,
-            event: Event::Announce { node, upto },
-        });
+            Event::Announce { node, upto },
+        );
     }
 
     /// The node's installer has installed what it announced.
@@ -33,9 +35,11 @@ impl Book {
     {
         let place = node_place(self.plan.settings, node);
         let upto = self.progress.install(place);
-        self.lines.push_reserved(Line {
+        note(
+            &mut self.lines,
+            &mut self.prepared,
             seat,
-            event: Event::Installed { node, upto },
-        });
+            Event::Installed { node, upto },
+        );
     }
 }

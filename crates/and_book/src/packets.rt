@@ -9,8 +9,8 @@ ghost use Rattle.and_book.specs.Outers.{IsSentBy};
 ghost use Rattle.and_book.specs.Settling.{MaySettleGateway, MaySettleIngress, ingress_event, IsLanding, MaySettleEgress, egress_event, IsLeaving};
 ghost use Rattle.and_book.specs.Views.{now, held, IsSeat, with_line, MayTake, IsPacket};
 
-use crate::book::Book;
-use and_events::{Actor, Event, Held, Items, Line, Packet, Queue, node_of, node_place};
+use crate::book::{Book, note};
+use and_events::{Actor, Event, Held, Items, Packet, Queue, node_of, node_place};
 use and_kept::{Holder, settle_gate, settle_landing, settle_leaving};
 use and_parcel::Parcel;
 use and_policy::{Decision, GateDecision, Landing, Leaving, Outcome};
@@ -36,14 +36,16 @@ impl Book {
         let place = node_place(self.plan.settings, node_of(actor));
         let need = self.progress.installed(place);
         let (held, parcel) = self.traffic.take(actor, need);
-        self.lines.push_reserved(Line {
+        note(
+            &mut self.lines,
+            &mut self.prepared,
             seat,
-            event: Event::Take {
+            Event::Take {
                 actor,
                 queue: held.queue,
                 packet: held.packet,
             },
-        });
+        );
         (held, parcel)
     }
 
@@ -62,7 +64,7 @@ impl Book {
     {
         let from = holder(&self.plan.packets, actor, parcel.packet());
         let event = settle_gate(&mut self.traffic, from, parcel, decision);
-        self.lines.push_reserved(Line { seat, event });
+        note(&mut self.lines, &mut self.prepared, seat, event);
     }
 
     /// The host worker settles the packet in its hand that has come for a VM, by a decision of the policy.
@@ -76,16 +78,18 @@ impl Book {
         let from = holder(&self.plan.packets, actor, packet);
         let said = landing_in(decision.outcome);
         let arrival = settle_landing(&mut self.traffic, &self.ports, from, parcel, said);
-        self.lines.push_reserved(Line {
+        note(
+            &mut self.lines,
+            &mut self.prepared,
             seat,
-            event: Event::Ingress {
+            Event::Ingress {
                 actor,
                 packet,
                 at: decision.at,
                 way: decision.way,
                 arrival,
             },
-        });
+        );
     }
 
     /// The host worker settles the packet in its hand that leaves a VM, by a decision of the policy.
@@ -100,16 +104,18 @@ impl Book {
         let own = self.progress.net(parcel.vm()).unwrap_or(0);
         let said = leaving_in(decision.outcome);
         let departure = settle_leaving(&mut self.traffic, from, own, parcel, said);
-        self.lines.push_reserved(Line {
+        note(
+            &mut self.lines,
+            &mut self.prepared,
             seat,
-            event: Event::Egress {
+            Event::Egress {
                 actor,
                 packet,
                 at: decision.at,
                 way: decision.way,
                 departure,
             },
-        });
+        );
     }
 }
 

@@ -11,8 +11,8 @@ ghost use Rattle.and_events.specs.Sound.{IsBuiltEntry};
 ghost use Rattle.and_events.specs.State.{home, packet_at, ports_move_of_entry, with_hold};
 ghost use Rattle.and_book.specs.Views.{now, held, IsSeat, with_line, IsPacket, IsAppend, IsHold, IsFree, finds_full};
 
-use crate::book::Book;
-use and_events::{Event, Items, Line, Node, Step, What, node_place};
+use crate::book::{Book, note};
+use and_events::{Event, Items, Node, Step, What, node_place};
 use and_kept::{Progress, Traffic};
 use and_parcel::Parcel;
 use and_policy::Entry;
@@ -31,10 +31,12 @@ impl Book {
         self.progress.append(entry);
         note_ports(&mut self.ports, entry);
         self.next += 1;
-        self.lines.push_reserved(Line {
+        note(
+            &mut self.lines,
+            &mut self.prepared,
             seat,
-            event: Event::Append { step },
-        });
+            Event::Append { step },
+        );
     }
 
     /// What the step that is due names is held at its node: its installer announces nothing, or nobody there takes a packet,
@@ -50,10 +52,12 @@ impl Book {
         let due = due_hold(&self.plan.steps, step);
         note_hold(&mut self.progress, &mut self.traffic, due.0, due.1, true);
         self.next += 1;
-        self.lines.push_reserved(Line {
+        note(
+            &mut self.lines,
+            &mut self.prepared,
             seat,
-            event: Event::Hold { step },
-        });
+            Event::Hold { step },
+        );
     }
 
     /// What the step that is due names is held at its node no more. It takes a few steps for each worker of that node.
@@ -67,10 +71,12 @@ impl Book {
         let due = due_free(&self.plan.steps, step);
         note_hold(&mut self.progress, &mut self.traffic, due.0, due.1, false);
         self.next += 1;
-        self.lines.push_reserved(Line {
+        note(
+            &mut self.lines,
+            &mut self.prepared,
             seat,
-            event: Event::Free { step },
-        });
+            Event::Free { step },
+        );
     }
 
     /// The packet of the step that is due comes to the `out` queue of its VM's host, or is lost where that is full.
@@ -87,10 +93,12 @@ impl Book {
         let host = self.progress.place(parcel.vm()).unwrap_or(0);
         let full = self.traffic.enter(host, parcel);
         self.next += 1;
-        self.lines.push_reserved(Line {
+        note(
+            &mut self.lines,
+            &mut self.prepared,
             seat,
-            event: Event::Inject { step, packet, full },
-        });
+            Event::Inject { step, packet, full },
+        );
     }
 
     /// The system has come to rest, as the step that is due asks.
@@ -103,10 +111,12 @@ impl Book {
     {
         let step = self.next;
         self.next += 1;
-        self.lines.push_reserved(Line {
+        note(
+            &mut self.lines,
+            &mut self.prepared,
             seat,
-            event: Event::Wait { step },
-        });
+            Event::Wait { step },
+        );
     }
 
     /// The end, which is the step that is due.
@@ -119,10 +129,12 @@ impl Book {
     {
         let step = self.next;
         self.next += 1;
-        self.lines.push_reserved(Line {
+        note(
+            &mut self.lines,
+            &mut self.prepared,
             seat,
-            event: Event::Finish { step },
-        });
+            Event::Finish { step },
+        );
     }
 }
 

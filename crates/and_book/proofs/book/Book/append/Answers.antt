@@ -43,8 +43,8 @@ invariant_of-self c =
     let e : Entry = c.due_entry-entry.result in
     let seat = seen x c.args.self.now c.self.view_is (λ (b : BookView). IsSeat b c.args.seat Driver) c.requires.seat in
     let room = room_kept x c.args.self.now 1 c.self.view_is c.self.invariant c.requires.room in
-    let fits : in_hand_count k.roads.flow ≤ vec_capacity c.push_reserved.new.self - vec_len c.push_reserved.new.self = omega (arith, room, c.push_reserved.ensures.len, c.push_reserved.ensures.capacity) in
-    keeps_more plan x.threads x.lines.items c.push_reserved.new.self.items k _ _ (vec_capacity c.push_reserved.new.self - vec_len c.push_reserved.new.self) c.args.seat (Append x.next)
-    c.self.invariant (legal_append plan s x.next e st.next c.due_entry-entry.ensures) seat c.push_reserved.ensures.items
+    let fits : in_hand_count k.roads.flow ≤ vec_capacity c.note.new.lines - vec_len c.note.new.lines = omega (arith, room, c.note.ensures.len, c.note.ensures.capacity) in
+    keeps_more plan x.threads x.lines.items c.note.new.lines.items k _ _ (vec_capacity c.note.new.lines - vec_len c.note.new.lines) c.args.seat (Append x.next)
+    c.self.invariant (legal_append plan s x.next e st.next c.due_entry-entry.ensures) seat c.note.ensures.items
     (after_append plan s k c.append.new.self c.note_ports.new.ports x.next e st c.due_entry-entry.ensures c.append.ensures.programmes c.note_ports.ensures c.append.ensures.limit c.append.ensures.held)
     (still plan (past x.lines.items) (Append x.next) k.roads tt c.self.invariant.parcels) fits

@@ -25,7 +25,7 @@ invariant_of-self c =
     let ready = seen x c.args.self.now c.self.view_is (λ (b : BookView). IsOver b.plan (now b)) c.requires.ready in
     let seat = seen x c.args.self.now c.self.view_is (λ (b : BookView). IsSeat b c.args.seat Driver) c.requires.seat in
     let room = room_kept x c.args.self.now 1 c.self.view_is c.self.invariant c.requires.room in
-    let fits : in_hand_count k.roads.flow ≤ vec_capacity c.push_reserved.new.self - vec_len c.push_reserved.new.self = omega (arith, room, c.push_reserved.ensures.len, c.push_reserved.ensures.capacity) in
-    keeps_more plan x.threads x.lines.items c.push_reserved.new.self.items k _ _ (vec_capacity c.push_reserved.new.self - vec_len c.push_reserved.new.self) c.args.seat (Finish x.next)
-    c.self.invariant (legal_finish plan s x.next c.self.invariant.stands.next due ready) seat c.push_reserved.ensures.items
+    let fits : in_hand_count k.roads.flow ≤ vec_capacity c.note.new.lines - vec_len c.note.new.lines = omega (arith, room, c.note.ensures.len, c.note.ensures.capacity) in
+    keeps_more plan x.threads x.lines.items c.note.new.lines.items k _ _ (vec_capacity c.note.new.lines - vec_len c.note.new.lines) c.args.seat (Finish x.next)
+    c.self.invariant (legal_finish plan s x.next c.self.invariant.stands.next due ready) seat c.note.ensures.items
     (after_finish plan s k x.next c.self.invariant.stands) (still plan (past x.lines.items) (Finish x.next) k.roads tt c.self.invariant.parcels) fits

@@ -47,9 +47,9 @@ invariant_of-self c =
     let seat = seen x c.args.self.now c.self.view_is (λ (b : BookView). IsSeat b c.args.seat Driver) c.requires.seat in
     let room = room_kept x c.args.self.now 1 c.self.view_is inv c.requires.room in
     let is : IsMarked k c.note_hold.new.progress c.note_hold.new.traffic node what false = record { installs = c.note_hold.ensures.installs; forwards = c.note_hold.ensures.forwards } in
-    let fits : in_hand_count c.note_hold.new.traffic.flow ≤ vec_capacity c.push_reserved.new.self - vec_len c.push_reserved.new.self =
-    omega (arith, ap (λ (t : Roads). in_hand_count t.flow) is.forwards, room, c.push_reserved.ensures.len, c.push_reserved.ensures.capacity) in
-    keeps_more plan x.threads x.lines.items c.push_reserved.new.self.items k _ _ (vec_capacity c.push_reserved.new.self - vec_len c.push_reserved.new.self) c.args.seat (Free x.next)
-    inv (legal_free plan s x.next c.due_free-due.result.0 c.due_free-due.result.1 st.next c.due_free-due.ensures) seat c.push_reserved.ensures.items
+    let fits : in_hand_count c.note_hold.new.traffic.flow ≤ vec_capacity c.note.new.lines - vec_len c.note.new.lines =
+    omega (arith, ap (λ (t : Roads). in_hand_count t.flow) is.forwards, room, c.note.ensures.len, c.note.ensures.capacity) in
+    keeps_more plan x.threads x.lines.items c.note.new.lines.items k _ _ (vec_capacity c.note.new.lines - vec_len c.note.new.lines) c.args.seat (Free x.next)
+    inv (legal_free plan s x.next c.due_free-due.result.0 c.due_free-due.result.1 st.next c.due_free-due.ensures) seat c.note.ensures.items
     (after_free plan s k c.note_hold.new.progress c.note_hold.new.traffic x.next node what st inv.sized.settings c.due_free-due.ensures is)
     (parcels_stay plan (Free x.next ∷ past x.lines.items) k c.note_hold.new.progress c.note_hold.new.traffic node what false is (still plan (past x.lines.items) (Free x.next) k.roads tt inv.parcels)) fits

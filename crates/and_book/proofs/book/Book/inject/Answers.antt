@@ -64,8 +64,8 @@ invariant_of-self c =
     let h = c.unwrap_or-host.result in
     let q = queue_place plan.settings (Host (home plan s i)) Out in
     let lines : List Line = x.lines.items in
-    let lines' : List Line = c.push_reserved.new.self.items in
-    let spare' = vec_capacity c.push_reserved.new.self - vec_len c.push_reserved.new.self in
+    let lines' : List Line = c.note.new.lines.items in
+    let spare' = vec_capacity c.note.new.lines - vec_len c.note.new.lines in
     let due = seen x c.args.self.now c.self.view_is (λ (b : BookView). slice_get b.plan.steps (now b).next ≡ Some (steps.Inject i)) c.requires.due in
     let ready = seen x c.args.self.now c.self.view_is (λ (b : BookView). KnowsVm b.plan (now b) (home b.plan (now b) i) (packet_at b.plan i).vm) c.requires.ready in
     let parcel = seen x c.args.self.now c.self.view_is (λ (b : BookView). IsPacket b.plan c.args.parcel) c.requires.parcel in
@@ -87,7 +87,7 @@ invariant_of-self c =
     let is : Inject x.next c.packet-packet.result full ≡ Inject x.next i full = ap (λ j. Inject x.next j full) c.packet-packet.ensures in
     subst (λ (r : Roads). Keeps plan x.threads lines' (record k { next = k.next + 1; roads = r }) spare') (sym c.enter-full.ensures.entered)
     (keeps_more plan x.threads lines lines' k after' _ spare' c.args.seat (Inject x.next i full)
-    inv (legal_inject plan s x.next i full st.next due ready ended) seat (c.push_reserved.ensures.items ∙ ap (λ (y : Event). lines ++ record { seat = c.args.seat; event = y } ∷ []) is)
+    inv (legal_inject plan s x.next i full st.next due ready ended) seat (c.note.ensures.items ∙ ap (λ (y : Event). lines ++ record { seat = c.args.seat; event = y } ∷ []) is)
     (after_inject plan s k x.next h c.args.parcel full st inv.sized.settings host)
     (injected_to plan (past lines) x.next k.roads after'.roads c.args.parcel h full (omega (arith, ready.2, host)) refl refl parcel inv.parcels)
-    (omega (arith, room, same, c.push_reserved.ensures.len, c.push_reserved.ensures.capacity)))
+    (omega (arith, room, same, c.note.ensures.len, c.note.ensures.capacity)))

@@ -60,8 +60,8 @@ invariant_of-self c =
     let f : Holder = c.holder-from.result in
     let arrival = c.settle_landing-arrival.result in
     let lines : List Line = x.lines.items in
-    let lines' : List Line = c.push_reserved.new.self.items in
-    let spare' = vec_capacity c.push_reserved.new.self - vec_len c.push_reserved.new.self in
+    let lines' : List Line = c.note.new.lines.items in
+    let spare' = vec_capacity c.note.new.lines - vec_len c.note.new.lines in
     let ready = seen x c.args.self.now c.self.view_is (λ (b : BookView). MaySettleIngress b.plan (now b) a i d) c.requires.ready in
     let parcel = seen x c.args.self.now c.self.view_is (λ (b : BookView). IsPacket b.plan c.args.parcel) c.requires.parcel in
     let seat = seen x c.args.self.now c.self.view_is (λ (b : BookView). IsSeat b c.args.seat a) c.requires.seat in
@@ -86,6 +86,6 @@ invariant_of-self c =
     subst (λ (r : Roads). Keeps plan x.threads lines' (record k { roads = r }) spare') (sym c.settle_landing-arrival.ensures.moved)
     (settled_keeps plan x.threads lines k _ inv a ready.decides.need Wire c.args.parcel ready.decides.holds lines' spare' c.args.seat e f _
     (legal_ingress plan s a i d.at d.way ready.decides ready.worker inv.sound.settings.gateways.0 leads sized (queues_within plan (past lines) inv.run)) tt refl from seat
-    (c.push_reserved.ensures.items ∙ ap (λ (y : Event). lines ++ record { seat = c.args.seat; event = y } ∷ []) is) parcel move
+    (c.note.ensures.items ∙ ap (λ (y : Event). lines ++ record { seat = c.args.seat; event = y } ∷ []) is) parcel move
     (subst (IsFrom (hand_place plan.settings a) i) (ingress_moves plan s a i d.at d.way _) (arrives_from plan.settings (hand_place plan.settings a) i (carried_at s i) _))
-    (omega (arith, c.push_reserved.ensures.len, c.push_reserved.ensures.capacity)))
+    (omega (arith, c.note.ensures.len, c.note.ensures.capacity)))

@@ -22,9 +22,9 @@ invariant_of-self c =
     let ready = seen x c.args.self.now c.self.view_is (λ (b : BookView). CanInstall b.plan (now b) c.args.node) c.requires.ready in
     let seat = seen x c.args.self.now c.self.view_is (λ (b : BookView). IsSeat b c.args.seat (installer_of c.args.node)) c.requires.seat in
     let room = room_kept x c.args.self.now 1 c.self.view_is c.self.invariant c.requires.room in
-    let fits : in_hand_count k.roads.flow ≤ vec_capacity c.push_reserved.new.self - vec_len c.push_reserved.new.self = omega (arith, room, c.push_reserved.ensures.len, c.push_reserved.ensures.capacity) in
+    let fits : in_hand_count k.roads.flow ≤ vec_capacity c.note.new.lines - vec_len c.note.new.lines = omega (arith, room, c.note.ensures.len, c.note.ensures.capacity) in
     let upto = c.install-upto.ensures.upto ∙ upto_announced plan s k c.args.node c.node_place-place.result c.self.invariant.stands c.node_place-place.ensures.place in
-    keeps_more plan x.threads x.lines.items c.push_reserved.new.self.items k _ _ (vec_capacity c.push_reserved.new.self - vec_len c.push_reserved.new.self) c.args.seat (Installed c.args.node c.install-upto.result)
-    c.self.invariant (legal_installed plan s c.args.node c.install-upto.result ready upto) seat c.push_reserved.ensures.items
+    keeps_more plan x.threads x.lines.items c.note.new.lines.items k _ _ (vec_capacity c.note.new.lines - vec_len c.note.new.lines) c.args.seat (Installed c.args.node c.install-upto.result)
+    c.self.invariant (legal_installed plan s c.args.node c.install-upto.result ready upto) seat c.note.ensures.items
     (after_installed plan s k c.install-upto.new.self c.args.node c.node_place-place.result c.install-upto.result c.self.invariant.stands c.node_place-place.ensures.place c.install-upto.ensures.programmes c.install-upto.ensures.limit c.install-upto.ensures.held)
     (still plan (past x.lines.items) (Installed c.args.node c.install-upto.result) k.roads tt c.self.invariant.parcels) fits

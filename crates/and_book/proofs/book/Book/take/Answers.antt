@@ -48,8 +48,8 @@ invariant_of-self c =
     let a = c.args.actor in
     let held : Held = c.take-parcel.result.0 in
     let lines : List Line = x.lines.items in
-    let lines' : List Line = c.push_reserved.new.self.items in
-    let spare' = vec_capacity c.push_reserved.new.self - vec_len c.push_reserved.new.self in
+    let lines' : List Line = c.note.new.lines.items in
+    let spare' = vec_capacity c.note.new.lines - vec_len c.note.new.lines in
     let ready = seen x c.args.self.now c.self.view_is (λ (b : BookView). MayTake b.plan (now b) a) c.requires.ready in
     let seat = seen x c.args.self.now c.self.view_is (λ (b : BookView). IsSeat b c.args.seat a) c.requires.seat in
     let room = room_kept x c.args.self.now 2 c.self.view_is inv c.requires.room in
@@ -68,10 +68,10 @@ invariant_of-self c =
     let more = one_held k.roads.flow (hand_place k.roads.settings a) (queue_place k.roads.settings (node_of a) held.queue) held within in
     subst (λ (r : Roads). Keeps plan x.threads lines' (record k { roads = r }) spare') (sym c.take-parcel.ensures.taken)
     (keeps_more plan x.threads lines lines' k (record k { roads = taken k.roads a held }) _ spare' c.args.seat (Take a held.queue held.packet)
-    inv (legal_take plan s a held.queue held.packet ready is first) seat c.push_reserved.ensures.items
+    inv (legal_take plan s a held.queue held.packet ready is first) seat c.note.ensures.items
     (after_take plan s k a held st inv.sized.settings need)
     (taken_from plan (past lines) a held.queue held.packet k.roads (taken k.roads a held) (hand_place k.roads.settings a) (queue_place k.roads.settings (node_of a) held.queue) held refl refl inv.parcels)
-    (omega (arith, room, more, c.push_reserved.ensures.len, c.push_reserved.ensures.capacity)))
+    (omega (arith, room, more, c.note.ensures.len, c.note.ensures.capacity)))
 
 pub returns-clause-held : goal.returns-clause-held
 returns-clause-held c =

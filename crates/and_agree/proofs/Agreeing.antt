@@ -31,7 +31,7 @@ use Rattle.and_events.specs.Programming.{Programmes, programme_at}
 use Rattle.and_events.specs.Run.{Run}
 use Rattle.and_events.specs.Sound.{IsSound}
 use Rattle.and_events.specs.State.{State, state, programme_of, announced_of}
-use Rattle.and_agree.proofs.Logged.{prefix_logged}
+use Rattle.and_book.proofs.Logged.{prefix_logged}
 
 -- what these operations say of a packet that leaves the VM, with so many gateways
 leaving_of : ℕ → List Op → ℕ → Tuple → Leaving

@@ -1,4 +1,3 @@
-pub mod Logged
 pub mod Readable
 pub mod Agreeing
 pub mod After

@@ -24,3 +24,4 @@ pub mod Due
 pub mod Listing
 pub mod Next
 pub mod Telling
+pub mod Logged

@@ -113,7 +113,7 @@ mapped_length : {X Y : Type 0} (f : X → Option Y) (xs : List X) → length (fi
 mapped_length f [] = omega arith
 mapped_length f (x ∷ xs) = cons_length (f x) (filter_map f xs) (length xs) (mapped_length f xs)
 
-orders_few : (s : Settings) (log : List Entry) (usage : List Used) → length (orders_of s log usage) ≤ length usage
+pub orders_few : (s : Settings) (log : List Entry) (usage : List Used) → length (orders_of s log usage) ≤ length usage
 orders_few s log usage =
     let over = λ (u : Used). nat_le s.threshold u.bytes in
     omega (arith, mapped_length (order_for s log) (filter over usage), length-filter over usage, count_by-le-length over usage)

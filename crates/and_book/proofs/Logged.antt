@@ -26,7 +26,7 @@ use Rattle.and_events.specs.Programming.{Programmes, Word, Quiet, Logs, Orders, 
 use Rattle.and_events.specs.Run.{Run}
 use Rattle.and_events.specs.Script.{entry_first}
 use Rattle.and_events.specs.Sound.{IsSound}
-use Rattle.and_events.specs.State.{State, state, start, after, word_of, word_of_step, programme_of}
+use Rattle.and_events.specs.State.{state, start, after, word_of, word_of_step, programme_of}
 use Rattle.and_laws.specs.Scripted.{script_at}
 use Rattle.and_laws.proofs.Following.{follows}
 use Rattle.and_laws.proofs.Programmed.{programmed}

@@ -1,10 +1,11 @@
 -- A packet in hand is settled: the move is made from that hand, and changes nothing but the packets.
-use Rattle.std.proofs.Common.{◌∙◌, ◌≡◌, ℕ, ◌+◌, ◌<◌, Bool, true, false, cond, length, set, refl, ap, arith, Option, Some, None}
+use Rattle.std.proofs.Common.{◌∙◌, ◌≡◌, ℕ, ◌+◌, ◌<◌, ◌≤◌, Bool, true, false, cond, length, set, refl, ap, arith, Option, Some, None}
 use Rattle.std.specs.Prelude.{is_some}
 use Rattle.std.specs.List.{count_by}
 use Rattle.and_policy.specs.declared.decision.GateDecision.{GateDecision}
 use Rattle.and_policy.specs.declared.decision.GateDecision.TheVariants as decisions
 use Rattle.and_policy.specs.declared.decision.Way.{Way}
+use Rattle.and_policy.specs.declared.port.UsageKey.{UsageKey}
 use Rattle.and_events.specs.declared.event.Actor.{Actor}
 use Rattle.and_events.specs.declared.event.Arrival.{Arrival}
 use Rattle.and_events.specs.declared.event.Arrival.TheVariants as arrivals
@@ -29,12 +30,15 @@ use Rattle.and_events.specs.Places.{hand_place, node_of}
 use Rattle.and_events.specs.Flow.{Flow, Move, Stay, Enter, Lose, Grab, Send, SealLater, Stop, carried_in, flow_after, hand_at}
 use Rattle.and_events.specs.Ports.{ports_after}
 use Rattle.and_events.specs.Programming.{programmes_after}
-use Rattle.and_events.specs.State.{State, after, move_of, word_of, ports_move_of, step_of, send, departs, passes, goes_back, arrives, dest_endpoint, dest_net, source_net, carried_at, holds_after}
+use Rattle.and_events.specs.State.{State, after, move_of, word_of, ports_move_of, step_of, send, departs, passes, goes_back, arrives, dest_endpoint, dest_net, source_net, carried_at, holds_after, frame_at, host_of, tuple_at, usage_by, usage_move_of}
+use Rattle.and_events.specs.Usage.{usage_after}
 use Rattle.and_laws.specs.Fates.{in_hand_count}
 use Rattle.and_kept.specs.Lanes.{Roads}
 use Rattle.and_kept.specs.Settling.{passage_of, return_of, gate_event, gate_move}
 use Rattle.and_kept.proofs.Counts.{count_set}
+use Rattle.and_review.specs.Views.{ReviewsView}
 use Rattle.and_book.specs.Inside.{Kept, Stands}
+use Rattle.and_book.specs.Settling.{use_of}
 
 -- the move is of this packet, from this hand
 abbrev pub IsFrom : ℕ → ℕ → Move → Type 0
@@ -132,11 +136,47 @@ pub gate_settles : (v : Settings) (f : Flow) (a : Actor) (i : ℕ) (d : GateDeci
 gate_settles v f a i (decisions.Routed at said) = tt
 gate_settles v f a i (decisions.Located at said) = tt
 
--- such an event changes the packets alone
-pub stands_settled : (plan : Plan) (s : State) (e : Event) (k : Kept) (roads : Roads) → Settles e → Stands k s → roads.held ≡ k.roads.held → roads.flow ≡ flow_after s.flow (move_of plan s e) → Stands (record k { roads = roads }) (after plan s e)
+-- what an event leaves of the usage, its room and what is known of the log
+pub record IsUsed (plan : Plan) (e : Event) (old new : ReviewsView) : Type 0 where
+  pub used : new.used ≡ usage_after old.used (usage_move_of plan e)
+  pub room : old.room ≤ new.room
+  pub known : new.known ≡ old.known
+
+-- such an event changes the packets and the usage alone
+pub stands_settled : (plan : Plan) (s : State) (e : Event) (k : Kept) (roads : Roads) (reviews : ReviewsView) → Settles e → Stands k s → roads.held ≡ k.roads.held → roads.flow ≡ flow_after s.flow (move_of plan s e) → IsUsed plan e k.reviews reviews → Stands (record k { roads = roads; reviews = reviews }) (after plan s e)
 unfolding after holds_after word_of ports_move_of step_of programmes_after ports_after
-stands_settled plan s (Egress a i at way d) k roads t st marks flow = record { next = st.next; programmes = st.programmes; ports = st.ports; flow = flow; holds = ap (λ m. record { install = k.progress.held; forward = m }) marks ∙ st.holds }
-stands_settled plan s (Route a i at p) k roads t st marks flow = record { next = st.next; programmes = st.programmes; ports = st.ports; flow = flow; holds = ap (λ m. record { install = k.progress.held; forward = m }) marks ∙ st.holds }
-stands_settled plan s (Redirect a i at back) k roads t st marks flow = record { next = st.next; programmes = st.programmes; ports = st.ports; flow = flow; holds = ap (λ m. record { install = k.progress.held; forward = m }) marks ∙ st.holds }
-stands_settled plan s (Ingress a i at way arrival) k roads t st marks flow = record { next = st.next; programmes = st.programmes; ports = st.ports; flow = flow; holds = ap (λ m. record { install = k.progress.held; forward = m }) marks ∙ st.holds }
-stands_settled plan s e k roads t st marks flow = absurd t
+stands_settled plan s (Egress a i at way d) k roads reviews t st marks flow using = record { next = st.next; programmes = st.programmes; ports = st.ports; flow = flow; holds = ap (λ m. record { install = k.progress.held; forward = m }) marks ∙ st.holds; usage = using.used ∙ ap (λ us. usage_after us (usage_move_of plan (Egress a i at way d))) st.usage }
+stands_settled plan s (Route a i at p) k roads reviews t st marks flow using = record { next = st.next; programmes = st.programmes; ports = st.ports; flow = flow; holds = ap (λ m. record { install = k.progress.held; forward = m }) marks ∙ st.holds; usage = using.used ∙ ap (λ us. usage_after us (usage_move_of plan (Route a i at p))) st.usage }
+stands_settled plan s (Redirect a i at back) k roads reviews t st marks flow using = record { next = st.next; programmes = st.programmes; ports = st.ports; flow = flow; holds = ap (λ m. record { install = k.progress.held; forward = m }) marks ∙ st.holds; usage = using.used ∙ ap (λ us. usage_after us (usage_move_of plan (Redirect a i at back))) st.usage }
+stands_settled plan s (Ingress a i at way arrival) k roads reviews t st marks flow using = record { next = st.next; programmes = st.programmes; ports = st.ports; flow = flow; holds = ap (λ m. record { install = k.progress.held; forward = m }) marks ∙ st.holds; usage = using.used ∙ ap (λ us. usage_after us (usage_move_of plan (Ingress a i at way arrival))) st.usage }
+stands_settled plan s e k roads reviews t st marks flow using = absurd t
+
+-- a packet that has left its VM uses nothing
+pub gate_uses : (plan : Plan) (v : Settings) (f : Flow) (a : Actor) (i : ℕ) (d : GateDecision) (r : ReviewsView) → IsUsed plan (gate_event v f a i d) r r
+unfolding usage_move_of usage_after
+gate_uses plan v f a i (decisions.Routed at said) r = record { used = refl; room = omega arith; known = refl }
+gate_uses plan v f a i (decisions.Located at said) r = record { used = refl; room = omega arith; known = refl }
+
+pub ingress_uses : (plan : Plan) (a : Actor) (i at : ℕ) (way : Way) (x : Arrival) (r : ReviewsView) → IsUsed plan (Ingress a i at way x) r r
+unfolding usage_move_of usage_after
+ingress_uses plan a i at way x r = record { used = refl; room = omega arith; known = refl }
+
+-- one that may leave it uses its frame, counted for its key
+use_is : (plan : Plan) (here : Node) (i : ℕ) (d : Departure) → use_of (record { host = host_of here; net = source_net plan i; ip = (tuple_at plan i).destination }) (length (frame_at plan i)) d ≡ usage_by plan here i d
+use_is plan here i NoVm = refl
+use_is plan here i Spoofed = refl
+use_is plan here i (Denied n) = refl
+use_is plan here i (Allowed by sealed dest end) = refl
+
+pub egress_uses : (plan : Plan) (a : Actor) (i at : ℕ) (way : Way) (d : Departure) (key : UsageKey) (bytes : ℕ) (r r' : ReviewsView)
+    → key ≡ record { host = host_of (node_of a); net = source_net plan i; ip = (tuple_at plan i).destination } → bytes ≡ length (frame_at plan i)
+    → r'.used ≡ usage_after r.used (use_of key bytes d) → r.room ≤ r'.room → r'.known ≡ r.known → IsUsed plan (Egress a i at way d) r r'
+unfolding usage_move_of
+egress_uses plan a i at way d key bytes r r' is long used room known = record {
+  used = used
+      ∙ (ap (λ x. usage_after r.used (use_of x bytes d)) is
+      ∙ (ap (λ n. usage_after r.used (use_of (record { host = host_of (node_of a); net = source_net plan i; ip = (tuple_at plan i).destination }) n d)) long
+      ∙ ap (usage_after r.used) (use_is plan (node_of a) i d)));
+  room = room;
+  known = known;
+}

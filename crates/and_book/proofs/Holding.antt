@@ -1,5 +1,5 @@
 -- Holds and frees: the event is legal, and what is kept after it.
-use Rattle.std.proofs.Common.{◌≡◌, ℕ, ◌+◌, Bool, true, false, List, refl, sym, ap, ◌∙◌, subst, Some}
+use Rattle.std.proofs.Common.{◌≡◌, ℕ, ◌+◌, Bool, true, false, List, refl, sym, ap, ◌∙◌, subst, Some, arith}
 use Rattle.std.specs.Prelude.{slice_get}
 use Rattle.and_events.specs.declared.event.Event.{Event}
 use Rattle.and_events.specs.declared.event.Event.TheVariants.{Hold, Free}
@@ -11,7 +11,8 @@ use Rattle.and_events.specs.Places.{node_place, IsNode}
 use Rattle.and_events.specs.Flow.{flow_after}
 use Rattle.and_events.specs.Ports.{ports_after}
 use Rattle.and_events.specs.Programming.{programmes_after}
-use Rattle.and_events.specs.State.{State, NodeHolds, state, after, move_of, word_of, ports_move_of, step_of, holds_after, holds_by, with_hold}
+use Rattle.and_events.specs.State.{State, NodeHolds, state, after, move_of, word_of, ports_move_of, step_of, usage_move_of, holds_after, holds_by, with_hold}
+use Rattle.and_events.specs.Usage.{usage_after}
 use Rattle.and_events.specs.Legal.{Legal, CanHold}
 use Rattle.and_events.specs.Sound.{IsSound}
 use Rattle.and_laws.specs.Scripted.{script_at}
@@ -58,7 +59,7 @@ marks_are plan s k p t node what on st settings is =
 
 pub after_hold : (plan : Plan) (s : State) (k : Kept) (p : Progressed) (t : Roads) (n : ℕ) (node : Node) (what : What) → Stands k s → k.roads.settings ≡ plan.settings → slice_get plan.steps n ≡ Some (steps.Hold node what)
     → IsMarked k p t node what true → IsAfter plan s (Hold n) k (record k { next = k.next + 1; progress = p; roads = t })
-unfolding after holds_after move_of word_of ports_move_of step_of flow_after ports_after programmes_after
+unfolding after holds_after move_of word_of ports_move_of step_of usage_move_of usage_after flow_after ports_after programmes_after
 after_hold plan s k p t n node what st settings due is =
     record {
       stands = record {
@@ -67,14 +68,17 @@ after_hold plan s k p t n node what st settings due is =
         ports = st.ports;
         flow = ap (λ (x : Roads). x.flow) is.forwards ∙ st.flow;
         holds = marks_are plan s k p t node what true st settings is ∙ sym (ap (holds_by plan.settings s.node_holds) due);
+        usage = st.usage;
       };
       settings = ap (λ (x : Roads). x.settings) is.forwards;
       limit = ap (λ (x : Progressed). x.limit) is.installs;
+      room = omega arith;
+      known = refl;
     }
 
 pub after_free : (plan : Plan) (s : State) (k : Kept) (p : Progressed) (t : Roads) (n : ℕ) (node : Node) (what : What) → Stands k s → k.roads.settings ≡ plan.settings → slice_get plan.steps n ≡ Some (steps.Free node what)
     → IsMarked k p t node what false → IsAfter plan s (Free n) k (record k { next = k.next + 1; progress = p; roads = t })
-unfolding after holds_after move_of word_of ports_move_of step_of flow_after ports_after programmes_after
+unfolding after holds_after move_of word_of ports_move_of step_of usage_move_of usage_after flow_after ports_after programmes_after
 after_free plan s k p t n node what st settings due is =
     record {
       stands = record {
@@ -83,9 +87,12 @@ after_free plan s k p t n node what st settings due is =
         ports = st.ports;
         flow = ap (λ (x : Roads). x.flow) is.forwards ∙ st.flow;
         holds = marks_are plan s k p t node what false st settings is ∙ sym (ap (holds_by plan.settings s.node_holds) due);
+        usage = st.usage;
       };
       settings = ap (λ (x : Roads). x.settings) is.forwards;
       limit = ap (λ (x : Progressed). x.limit) is.installs;
+      room = omega arith;
+      known = refl;
     }
 
 -- the parcels stay where they are

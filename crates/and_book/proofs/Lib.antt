@@ -24,4 +24,6 @@ pub mod Due
 pub mod Listing
 pub mod Next
 pub mod Telling
+pub mod Using
+pub mod Reviewing
 pub mod Logged

@@ -1,12 +1,12 @@
 -- The enabled actors, in the order of their numbers.
-use Rattle.std.proofs.Common.{◌≡◌, ℕ, zero, suc, ◌+◌, ◌-◌, ◌*◌, ◌<◌, ◌≤◌, ◌⊎◌, inl, inr, ⊎_elim, Bool, true, false, List, [], ◌∷◌, length, refl, sym, ap, ◌∙◌, subst, arith, Option, Some, None}
+use Rattle.std.proofs.Common.{◌≡◌, ℕ, zero, suc, ◌+◌, ◌-◌, ◌<◌, ◌≤◌, ◌⊎◌, inl, inr, ⊎_elim, Bool, true, false, List, [], ◌∷◌, length, refl, sym, ap, ◌∙◌, subst, arith, Option, Some, None}
 use Rattle.std.specs.Prelude.{slice_get, ◌↔◌, IsTrue, IfSome, IfNone}
 use Rattle.std.specs.List.{All, Contains}
 use Rattle.std.proofs.lemmas.Bool.{cases_lt}
 use Rattle.std.proofs.lemmas.List.Elements.{All-nil, All-cons, All-head, All-weaker, All-contains}
 use Rattle.std.proofs.lemmas.Option.{slice_get_within, slice_get_past, get_or_from_slice_get}
 use Rattle.and_events.specs.declared.event.Actor.{Actor}
-use Rattle.and_events.specs.declared.event.Actor.TheVariants.{HostInstall, GateInstall, Worker, Coproc, Gateway, Controller, Driver}
+use Rattle.and_events.specs.declared.event.Actor.TheVariants.{HostInstall, GateInstall, Controller, Driver}
 use Rattle.and_events.specs.declared.event.Event.{Event}
 use Rattle.and_events.specs.declared.plan.Plan.{Plan}
 use Rattle.and_events.specs.declared.plan.Settings.{Settings}
@@ -16,7 +16,6 @@ use Rattle.and_events.specs.Places.{node_count, hand_count, actor_number, actor_
 use Rattle.and_events.specs.Run.{Run}
 use Rattle.and_events.specs.Sound.{IsSound, IsBuilt}
 use Rattle.and_events.specs.State.{State, state}
-use Rattle.std.proofs.lemmas.Nat.{mul-add-lt}
 use Rattle.and_laws.proofs.Actors.{hand_number, same_actor}
 use Rattle.and_laws.proofs.Enabling.{hand_of}
 use Rattle.and_kept.specs.Numbers.{count_below, one_if}

@@ -1,7 +1,7 @@
 -- One more line keeps a book.
 use Rattle.and_events.specs.declared.plan.Settings.{Settings}
 use Rattle.and_events.specs.Flow.{Flow}
-use Rattle.std.proofs.Common.{◌≡◌, ℕ, ◌+◌, ◌-◌, ◌≤◌, vec_len, vec_capacity, List, [], ◌∷◌, ◌++◌, length, refl, sym, ap, ◌∙◌, subst, arith, replicate, false, cond, Option, None}
+use Rattle.std.proofs.Common.{◌≡◌, ℕ, ◌+◌, ◌-◌, ◌≤◌, vec_len, vec_capacity, List, [], ◌∷◌, ◌++◌, length, refl, sym, ap, ◌∙◌, subst, arith, replicate, Bool, true, false, cond, Option, None, append_assoc, append-nil}
 use Rattle.std.specs.Prelude.{is_some}
 use Rattle.std.specs.List.{All, count_by}
 use Rattle.std.proofs.lemmas.Grind.{fold-append}
@@ -15,15 +15,17 @@ use Rattle.and_events.specs.declared.event.Event.{Event}
 use Rattle.and_events.specs.declared.event.Line.{Line}
 use Rattle.and_events.specs.declared.plan.Plan.{Plan}
 use Rattle.and_events.specs.Places.{seat_of, actor_of, node_count, queue_count, hand_count}
-use Rattle.and_events.specs.State.{State, state, start, after}
+use Rattle.and_events.specs.Programming.{Programmes, Word, Quiet, Logs, Orders, Announces, Installs, programmes_after}
+use Rattle.and_events.specs.State.{State, state, start, after, word_of}
 use Rattle.and_events.specs.Legal.{Legal}
 use Rattle.and_events.specs.Run.{Run, past}
 use Rattle.and_laws.specs.Fates.{in_hand_count}
 use Rattle.and_laws.specs.Sizes.{HasSizes, HasNodes}
 use Rattle.and_laws.proofs.Sizes.{sizes, nodes as nodes_of}
+use Rattle.and_review.specs.Views.{Begins}
 use Rattle.and_book.specs.declared.book.Book.TheInside.{Inside}
 use Rattle.and_book.specs.Views.{BookView, held}
-use Rattle.and_book.specs.Inside.{Kept, kept_of, view_of, Stands, IsSized, HasParcels, Keeps, IsBook}
+use Rattle.and_book.specs.Inside.{Kept, kept_of, view_of, Stands, IsSized, HasReviews, HasParcels, Keeps, IsBook}
 
 past_push : (lines : List Line) (l : Line) → past (lines ++ l ∷ []) ≡ l.event ∷ past lines
 past_push lines l = fold-append (λ h x. x.event ∷ h) [] lines (l ∷ [])
@@ -41,6 +43,27 @@ pub record IsAfter (plan : Plan) (s : State) (e : Event) (k k' : Kept) : Type 0 
   pub stands : Stands k' (after plan s e)
   pub settings : k'.roads.settings ≡ k.roads.settings
   pub limit : k'.progress.limit ≡ k.progress.limit
+  pub room : k.reviews.room ≤ k'.reviews.room
+  pub known : k'.reviews.known ≡ k.reviews.known
+
+-- the log grows at its end
+log_grows : (p : Programmes) (w : Word) → Begins p.log (programmes_after p w).log
+unfolding programmes_after
+log_grows p Quiet = ([], sym (append-nil p.log))
+log_grows p (Logs e) = (e ∷ [], refl)
+log_grows p (Orders os) = ([], sym (append-nil p.log))
+log_grows p (Announces n upto) = ([], sym (append-nil p.log))
+log_grows p (Installs n upto) = ([], sym (append-nil p.log))
+
+-- so what is known of it stays its beginning
+known_after : (plan : Plan) (s : State) (e : Event) (k k' : Kept) → Stands k s → IsAfter plan s e k k' → Begins k.reviews.known k.progress.programmes.log → Begins k'.reviews.known k'.progress.programmes.log
+unfolding after
+known_after plan s e k k' st follows (later, is) =
+    let (more, grown) = log_grows s.programmes (word_of plan s e) in (
+      later ++ more,
+      ap (λ p. p.log) follows.stands.programmes
+          ∙ (grown ∙ (ap (λ p. p.log ++ more) (sym st.programmes) ∙ (ap (λ log. log ++ more) is ∙ (append_assoc k.reviews.known later more ∙ ap (λ known. known ++ (later ++ more)) (sym follows.known))))),
+    )
 
 pub keeps_more : (plan : Plan) (threads : ℕ) (lines lines' : List Line) (k k' : Kept) (spare spare' seat : ℕ) (e : Event) →
     Keeps plan threads lines k spare → Legal plan (state plan (past lines)) e → seat ≡ seat_of threads plan.settings (actor_of e)
@@ -66,7 +89,15 @@ keeps_more plan threads lines lines' k k' spare spare' seat e keeps legal seated
       small = keeps.small;
       sizes = subst (HasSizes plan) (sym stands.flow) (sizes plan (past lines'));
       nodes = subst (HasNodes plan) (sym stands.programmes) (nodes_of plan (past lines'));
+      reviews = record {
+        room = omega (arith, keeps.reviews.room, follows.room);
+        known = known_after plan (state plan (past lines)) e k k' keeps.stands follows keeps.reviews.known;
+      };
     }
+
+-- a book that is not prepared owes no orders
+pub unprepared : {X : Type 0} (prepared : Bool) → prepared ≡ false → prepared ≡ true → X
+unprepared prepared is isnt = absurd (let clash : true ≡ false = sym isnt ∙ is in cc)
 
 -- what is read off the traffic is so of the plan's settings and the state's packets
 pub as_kept : {A : Type 0} (plan : Plan) (s : State) (k : Kept) (g : Settings → Flow → A) → k.roads.settings ≡ plan.settings → k.roads.flow ≡ s.flow → g k.roads.settings k.roads.flow ≡ g plan.settings s.flow
@@ -78,9 +109,9 @@ seen x b e P p = subst P (sym e) p
 
 -- the room that a call asks for is there
 pub room_kept : (x : Inside) (b : BookView) (n : ℕ) → view_of x ≡ b → IsBook x → held b + n ≤ b.spare → in_hand_count (kept_of x).roads.flow + n ≤ vec_capacity x.lines - vec_len x.lines
-room_kept x b n e keeps h =
+room_kept x b n e is h =
     let there = seen x b e (λ (v : BookView). held v + n ≤ v.spare) h in
-    omega (arith, there, ap in_hand_count keeps.stands.flow)
+    omega (arith, there, ap in_hand_count is.keeps.stands.flow)
 
 -- ---- a book without lines
 
@@ -96,9 +127,9 @@ stands_start : (plan : Plan) (k : Kept) (vms nodes packets : ℕ) → k.next ≡
     → k.progress.programmes ≡ record { log = []; ops = replicate nodes []; announced = replicate nodes 0; installed = replicate nodes 0 }
     → k.ports ≡ replicate vms (replicate plan.settings.hosts Absent)
     → k.roads.flow ≡ record { queues = replicate (queue_count plan.settings) []; hands = replicate (hand_count plan.settings) None; carried = replicate packets (unsent plan.settings) }
-    → k.progress.held ≡ replicate nodes false → k.roads.held ≡ replicate (node_count plan.settings) false → Stands k (start plan)
+    → k.progress.held ≡ replicate nodes false → k.roads.held ≡ replicate (node_count plan.settings) false → k.reviews.used ≡ [] → Stands k (start plan)
 unfolding start
-stands_start plan k vms nodes packets zero n v p programmes ports flow installs forwards = record { next = zero; programmes = cc; ports = cc; flow = cc; holds = cc }
+stands_start plan k vms nodes packets zero n v p programmes ports flow installs forwards used = record { next = zero; programmes = cc; ports = cc; flow = cc; holds = cc; usage = used }
 
 abbrev no_hand : Option Held
 no_hand = None
@@ -110,9 +141,9 @@ pub keeps_start : (plan : Plan) (threads : ℕ) (lines : List Line) (k : Kept) (
     → k.progress.programmes ≡ record { log = []; ops = replicate nodes []; announced = replicate nodes 0; installed = replicate nodes 0 }
     → k.ports ≡ replicate vms (replicate plan.settings.hosts Absent)
     → k.roads.flow ≡ record { queues = replicate (queue_count plan.settings) []; hands = replicate (hand_count plan.settings) None; carried = replicate packets (unsent plan.settings) }
-    → k.progress.held ≡ replicate nodes false → k.roads.held ≡ replicate (node_count plan.settings) false → IsSized plan k → HasParcels plan [] k.roads → Keeps plan threads lines k spare
-keeps_start plan threads lines k spare vms nodes packets sound built none zero n v p programmes ports flow installs forwards sized parcels =
-    let st : Stands k (state plan []) = subst (Stands k) (start_is plan) (stands_start plan k vms nodes packets zero n v p programmes ports flow installs forwards) in
+    → k.progress.held ≡ replicate nodes false → k.roads.held ≡ replicate (node_count plan.settings) false → k.reviews.used ≡ [] → IsSized plan k → HasParcels plan [] k.roads → HasReviews plan k → Keeps plan threads lines k spare
+keeps_start plan threads lines k spare vms nodes packets sound built none zero n v p programmes ports flow installs forwards used sized parcels reviews =
+    let st : Stands k (state plan []) = subst (Stands k) (start_is plan) (stands_start plan k vms nodes packets zero n v p programmes ports flow installs forwards used) in
     subst (λ ls. Keeps plan threads ls k spare) (sym none)
     (record {
       sound = sound;
@@ -126,4 +157,5 @@ keeps_start plan threads lines k spare vms nodes packets sound built none zero n
       small = record { hosts = sound.settings.hosts.1; gateways = sound.settings.gateways.1; workers = sound.settings.workers.1 };
       sizes = subst (HasSizes plan) (sym st.flow) (sizes plan []);
       nodes = subst (HasNodes plan) (sym st.programmes) (nodes_of plan []);
+      reviews = reviews;
     })

@@ -13,7 +13,6 @@ use Rattle.and_policy.specs.FlowHash.{flow_hash}
 use Rattle.and_policy.specs.Outer.{outer_packet, entropy_port}
 use Rattle.and_parcel.specs.Parcels.{ParcelView, wire_of}
 use Rattle.and_events.specs.declared.event.Actor.{Actor}
-use Rattle.and_events.specs.declared.event.Actor.TheVariants.{HostInstall, GateInstall, Worker, Coproc, Gateway, Controller, Driver}
 use Rattle.and_events.specs.declared.event.Endpoint.{Endpoint}
 use Rattle.and_events.specs.declared.event.Event.{Event}
 use Rattle.and_events.specs.declared.event.Event.TheVariants.{Append, Review, Hold, Free, Inject, Wait, Finish, Announce, Installed, Take}
@@ -24,7 +23,7 @@ use Rattle.and_events.specs.declared.event.Queue.{Queue}
 use Rattle.and_events.specs.declared.event.Queue.TheVariants.{Wire}
 use Rattle.and_events.specs.declared.plan.Plan.{Plan}
 use Rattle.and_events.specs.declared.plan.Settings.{Settings}
-use Rattle.and_events.specs.Places.{hand_place, queue_place, queue_count, node_of, actor_of, IsNode, IsActor}
+use Rattle.and_events.specs.Places.{hand_place, queue_place, queue_count, node_of, actor_of, IsNode}
 use Rattle.and_events.specs.Flow.{Flow, Move, Stay, Enter, Lose, Grab, Send, SealLater, Stop, flow_after, enter_by, carried_in, queue_at, hand_at, pushed, popped}
 use Rattle.and_events.specs.OuterPackets.{Sent, sent_by_move, with_sent, sends_of, sent_bytes, source_address, endpoint_address}
 use Rattle.and_events.specs.State.{State, state, move_of, tuple_at, frame_at, carried_at}
@@ -45,7 +44,6 @@ use Rattle.and_book.specs.Inside.{HasParcels}
 use Rattle.and_book.specs.Outers.{IsNewest, IsSentBy}
 use Rattle.and_kept.specs.Outers.{wrapped, parcels_moved}
 use Rattle.and_book.specs.Views.{IsPacket}
-use Rattle.and_events.specs.Places.{Handles}
 use Rattle.and_book.proofs.Carrying.{IsPlainMove, event_plain, plain_flow}
 use Rattle.and_book.proofs.Injecting.{all_with, all_entered}
 use Rattle.and_book.proofs.Taking.{all_without_first, first_of}

@@ -19,11 +19,12 @@ use Rattle.and_laws.proofs.Losses.{held_is_known}
 use Rattle.and_laws.proofs.Sourced.{source_stays}
 use Rattle.and_kept.specs.declared.traffic.Holder.{Holder}
 use Rattle.and_kept.specs.Moves.{MayMove, moved}
+use Rattle.and_review.specs.Views.{ReviewsView}
 use Rattle.and_book.specs.Inside.{Kept, Keeps}
 use Rattle.and_book.specs.Views.{IsPacket}
 use Rattle.and_book.proofs.More.{keeps_more}
 use Rattle.and_book.proofs.Outgoing.{IsOf, settles}
-use Rattle.and_book.proofs.FromHand.{IsFrom, Settles, lets_go, stands_settled}
+use Rattle.and_book.proofs.FromHand.{IsFrom, IsUsed, Settles, lets_go, stands_settled}
 
 of_from : (hand i : ℕ) (m : Move) → IsFrom hand i m → IsOf i m
 of_from hand i (Send a q j net target) from = from.1
@@ -69,19 +70,21 @@ module _ (plan : Plan) (threads : ℕ) (lines : List Line) (k : Kept) (spare : �
   full : hand_at k.roads.flow.hands (hand_place plan.settings a) ≡ Some held
   full = ap (λ f. hand_at f.hands (hand_place plan.settings a)) keeps.stands.flow ∙ has
 
-  pub settled_keeps : (lines' : List Line) (spare' seat : ℕ) (e : Event) (from : Holder) (m : Move) → Legal plan s e → Settles e → actor_of e ≡ a → from ≡ record { actor = a; tuple = tuple_at plan p.packet }
+  pub settled_keeps : (lines' : List Line) (spare' seat : ℕ) (e : Event) (from : Holder) (m : Move) (reviews' : ReviewsView) → Legal plan s e → Settles e → actor_of e ≡ a → from ≡ record { actor = a; tuple = tuple_at plan p.packet }
       → seat ≡ seat_of threads plan.settings a → lines' ≡ lines ++ record { seat = seat; event = e } ∷ [] → IsPacket plan p → m ≡ move_of plan s e → IsFrom (hand_place plan.settings a) p.packet (move_of plan s e)
-      → spare ≤ spare' + 1 → Keeps plan threads lines' (record k { roads = moved k.roads from p m }) spare'
-  settled_keeps lines' spare' seat e from m legal settling whose is seated longer ok move hand fits =
+      → spare ≤ spare' + 1 → IsUsed plan e k.reviews reviews' → Keeps plan threads lines' (record k { roads = moved k.roads from p m; reviews = reviews' }) spare'
+  settled_keeps lines' spare' seat e from m reviews' legal settling whose is seated longer ok move hand fits using =
       let roads' = moved k.roads from p m in
       let by : IsFrom (hand_place plan.settings a) p.packet m = subst (IsFrom (hand_place plan.settings a) p.packet) (sym move) hand in
       let less = lets_go k.roads.flow (hand_place plan.settings a) p.packet m held by (hand_within k.roads.flow.hands (hand_place plan.settings a) held full) full in
       let node : node_of from.actor ≡ node_of (actor_of e) = ap (λ (f : Holder). node_of f.actor) is ∙ ap node_of (sym whose) in
-      keeps_more plan threads lines lines' k (record k { roads = roads' }) spare spare' seat e keeps legal (seated ∙ ap (seat_of threads plan.settings) (sym whose)) longer
+      keeps_more plan threads lines lines' k (record k { roads = roads'; reviews = reviews' }) spare spare' seat e keeps legal (seated ∙ ap (seat_of threads plan.settings) (sym whose)) longer
       (record {
-        stands = stands_settled plan s e k roads' settling keeps.stands refl (ap (λ f. flow_after f m) keeps.stands.flow ∙ ap (flow_after s.flow) move);
+        stands = stands_settled plan s e k roads' reviews' settling keeps.stands refl (ap (λ f. flow_after f m) keeps.stands.flow ∙ ap (flow_after s.flow) move) using;
         settings = refl;
         limit = refl;
+        room = using.room;
+        known = using.known;
       })
       (settles plan (past lines) e a need q p (node_of from.actor) from.tuple m k.roads roads' keeps.sound keeps.built keeps.run legal ok has keeps.stands.flow node
       (ap (λ (f : Holder). f.tuple) is) move (of_from (hand_place plan.settings a) p.packet m by) refl refl keeps.parcels)

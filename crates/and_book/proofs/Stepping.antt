@@ -2,7 +2,7 @@
 use Rattle.and_parcel.specs.Parcels.{ParcelView}
 use Rattle.and_kept.specs.Moves.{entered}
 use Rattle.and_book.proofs.More.{as_kept}
-use Rattle.std.proofs.Common.{◌≡◌, ℕ, ◌+◌, Bool, true, false, List, length, refl, sym, ap, ◌∙◌, Some}
+use Rattle.std.proofs.Common.{◌≡◌, ℕ, ◌+◌, Bool, true, false, List, length, refl, sym, ap, ◌∙◌, Some, arith}
 use Rattle.std.specs.Prelude.{slice_get}
 use Rattle.and_events.specs.declared.event.Node.{Node}
 use Rattle.and_events.specs.declared.event.Event.TheVariants.{Announce, Installed, Wait, Finish, Append, Inject}
@@ -17,7 +17,8 @@ use Rattle.and_events.specs.Places.{node_place, queue_place}
 use Rattle.and_events.specs.Flow.{Flow, flow_after, enter_by}
 use Rattle.and_events.specs.Ports.{ports_after}
 use Rattle.and_events.specs.Programming.{Logs, Announces, Installs, programmes_after, programme_at, announced_at}
-use Rattle.and_events.specs.State.{State, after, move_of, word_of, ports_move_of, step_of, word_of_step, ports_move_of_step, ports_move_of_entry, programme_of, announced_of, home, packet_at, holds_after}
+use Rattle.and_events.specs.State.{State, after, move_of, word_of, ports_move_of, step_of, usage_move_of, word_of_step, ports_move_of_step, ports_move_of_entry, programme_of, announced_of, home, packet_at, holds_after}
+use Rattle.and_events.specs.Usage.{usage_after}
 use Rattle.and_events.specs.Legal.{Legal, CanAnnounce, CanInstall, CanStep, Steps, IsAtRest, IsOver, KnowsVm, EndsAt, inject_end}
 use Rattle.and_laws.specs.Fates.{in_hand_count}
 use Rattle.and_kept.specs.Nodes.{Progressed}
@@ -33,21 +34,25 @@ unfolding Legal
 legal_installed plan s node upto can is = (can, is)
 
 pub after_announce : (plan : Plan) (s : State) (k : Kept) (p : Progressed) (node : Node) (place upto : ℕ) → Stands k s → place ≡ node_place plan.settings node → p.programmes ≡ programmes_after k.progress.programmes (Announces place upto) → p.limit ≡ k.progress.limit → p.held ≡ k.progress.held → IsAfter plan s (Announce node upto) k (record k { progress = p })
-unfolding after holds_after move_of word_of ports_move_of step_of flow_after ports_after
+unfolding after holds_after move_of word_of ports_move_of step_of usage_move_of usage_after flow_after ports_after
 after_announce plan s k p node place upto st there is limit marks =
     record {
-      stands = record { next = st.next; programmes = is ∙ (ap (λ q. programmes_after q (Announces place upto)) st.programmes ∙ ap (λ n. programmes_after s.programmes (Announces n upto)) there); ports = st.ports; flow = st.flow; holds = ap (λ marks. record { install = marks; forward = k.roads.held }) marks ∙ st.holds };
+      stands = record { next = st.next; programmes = is ∙ (ap (λ q. programmes_after q (Announces place upto)) st.programmes ∙ ap (λ n. programmes_after s.programmes (Announces n upto)) there); ports = st.ports; flow = st.flow; holds = ap (λ marks. record { install = marks; forward = k.roads.held }) marks ∙ st.holds; usage = st.usage };
       settings = refl;
       limit = limit;
+      room = omega arith;
+      known = refl;
     }
 
 pub after_installed : (plan : Plan) (s : State) (k : Kept) (p : Progressed) (node : Node) (place upto : ℕ) → Stands k s → place ≡ node_place plan.settings node → p.programmes ≡ programmes_after k.progress.programmes (Installs place upto) → p.limit ≡ k.progress.limit → p.held ≡ k.progress.held → IsAfter plan s (Installed node upto) k (record k { progress = p })
-unfolding after holds_after move_of word_of ports_move_of step_of flow_after ports_after
+unfolding after holds_after move_of word_of ports_move_of step_of usage_move_of usage_after flow_after ports_after
 after_installed plan s k p node place upto st there is limit marks =
     record {
-      stands = record { next = st.next; programmes = is ∙ (ap (λ q. programmes_after q (Installs place upto)) st.programmes ∙ ap (λ n. programmes_after s.programmes (Installs n upto)) there); ports = st.ports; flow = st.flow; holds = ap (λ marks. record { install = marks; forward = k.roads.held }) marks ∙ st.holds };
+      stands = record { next = st.next; programmes = is ∙ (ap (λ q. programmes_after q (Installs place upto)) st.programmes ∙ ap (λ n. programmes_after s.programmes (Installs n upto)) there); ports = st.ports; flow = st.flow; holds = ap (λ marks. record { install = marks; forward = k.roads.held }) marks ∙ st.holds; usage = st.usage };
       settings = refl;
       limit = limit;
+      room = omega arith;
+      known = refl;
     }
 
 -- the length of the programme, and what is announced, as they are kept
@@ -71,21 +76,21 @@ unfolding Legal
 legal_finish plan s n is due can = steps_due plan s n steps.Finish is due can
 
 pub after_wait : (plan : Plan) (s : State) (k : Kept) (n : ℕ) → Stands k s → IsAfter plan s (Wait n) k (record k { next = k.next + 1 })
-unfolding after holds_after move_of word_of ports_move_of step_of flow_after ports_after programmes_after
+unfolding after holds_after move_of word_of ports_move_of step_of usage_move_of usage_after flow_after ports_after programmes_after
 after_wait plan s k n st =
-    record { stands = record { next = ap (λ m. m + 1) st.next; programmes = st.programmes; ports = st.ports; flow = st.flow; holds = st.holds }; settings = refl; limit = refl }
+    record { stands = record { next = ap (λ m. m + 1) st.next; programmes = st.programmes; ports = st.ports; flow = st.flow; holds = st.holds; usage = st.usage }; settings = refl; limit = refl; room = omega arith; known = refl }
 
 pub after_finish : (plan : Plan) (s : State) (k : Kept) (n : ℕ) → Stands k s → IsAfter plan s (Finish n) k (record k { next = k.next + 1 })
-unfolding after holds_after move_of word_of ports_move_of step_of flow_after ports_after programmes_after
+unfolding after holds_after move_of word_of ports_move_of step_of usage_move_of usage_after flow_after ports_after programmes_after
 after_finish plan s k n st =
-    record { stands = record { next = ap (λ m. m + 1) st.next; programmes = st.programmes; ports = st.ports; flow = st.flow; holds = st.holds }; settings = refl; limit = refl }
+    record { stands = record { next = ap (λ m. m + 1) st.next; programmes = st.programmes; ports = st.ports; flow = st.flow; holds = st.holds; usage = st.usage }; settings = refl; limit = refl; room = omega arith; known = refl }
 
 pub legal_append : (plan : Plan) (s : State) (n : ℕ) (e : Entry) → n ≡ s.next → slice_get plan.steps n ≡ Some (steps.Append e) → Legal plan s (Append n)
 unfolding Legal
 legal_append plan s n e is due = (e, (is, due, tt))
 
 pub after_append : (plan : Plan) (s : State) (k : Kept) (p : Progressed) (ports : List (List Port)) (n : ℕ) (e : Entry) → Stands k s → slice_get plan.steps n ≡ Some (steps.Append e) → p.programmes ≡ programmes_after k.progress.programmes (Logs e) → ports ≡ ports_after k.ports (ports_move_of_entry e) → p.limit ≡ k.progress.limit → p.held ≡ k.progress.held → IsAfter plan s (Append n) k (record k { next = k.next + 1; progress = p; ports = ports })
-unfolding after holds_after move_of word_of ports_move_of step_of flow_after
+unfolding after holds_after move_of word_of ports_move_of step_of usage_move_of usage_after flow_after
 after_append plan s k p ports n e st due logged moved limit marks =
     record {
       stands = record {
@@ -94,9 +99,12 @@ after_append plan s k p ports n e st due logged moved limit marks =
         ports = moved ∙ (ap (λ q. ports_after q (ports_move_of_entry e)) st.ports ∙ ap (λ o. ports_after s.ports (ports_move_of_step s o)) (sym due));
         flow = st.flow;
         holds = ap (λ marks. record { install = marks; forward = k.roads.held }) marks ∙ st.holds;
+        usage = st.usage;
       };
       settings = refl;
       limit = limit;
+      room = omega arith;
+      known = refl;
     }
 
 pub legal_inject : (plan : Plan) (s : State) (n i : ℕ) (full : Bool) → n ≡ s.next → slice_get plan.steps s.next ≡ Some (steps.Inject i) → KnowsVm plan s (home plan s i) (packet_at plan i).vm → EndsAt plan s (queue_place plan.settings (Host (home plan s i)) Out) (inject_end full) → Legal plan s (Inject n i full)
@@ -104,7 +112,7 @@ unfolding Legal
 legal_inject plan s n i full is due knows ends = (steps_due plan s n (steps.Inject i) is due knows, ends)
 
 pub after_inject : (plan : Plan) (s : State) (k : Kept) (n host : ℕ) (p : ParcelView) (full : Bool) → Stands k s → k.roads.settings ≡ plan.settings → host ≡ home plan s p.packet → IsAfter plan s (Inject n p.packet full) k (record k { next = k.next + 1; roads = entered k.roads host p full })
-unfolding after holds_after move_of word_of ports_move_of step_of ports_after programmes_after
+unfolding after holds_after move_of word_of ports_move_of step_of usage_move_of usage_after ports_after programmes_after
 after_inject plan s k n host p full st settings there =
     record {
       stands = record {
@@ -114,9 +122,12 @@ after_inject plan s k n host p full st settings there =
         flow = as_kept plan s k (λ v f. flow_after f (enter_by (queue_place v (Host host) Out) p.packet full)) settings st.flow
             ∙ ap (λ m. flow_after s.flow (enter_by (queue_place plan.settings (Host m) Out) p.packet full)) there;
         holds = st.holds;
+        usage = st.usage;
       };
       settings = refl;
       limit = refl;
+      room = omega arith;
+      known = refl;
     }
 
 -- a packet that comes from outside is in no hand

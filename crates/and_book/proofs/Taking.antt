@@ -23,7 +23,8 @@ use Rattle.and_events.specs.Places.{hand_place, queue_place, node_of}
 use Rattle.and_events.specs.Flow.{Flow, Grab, flow_after, queue_at}
 use Rattle.and_events.specs.Ports.{ports_after}
 use Rattle.and_events.specs.Programming.{programmes_after}
-use Rattle.and_events.specs.State.{State, after, move_of, word_of, ports_move_of, step_of, installed_of, holds_after}
+use Rattle.and_events.specs.State.{State, after, move_of, word_of, ports_move_of, step_of, usage_move_of, installed_of, holds_after}
+use Rattle.and_events.specs.Usage.{usage_after}
 use Rattle.and_events.specs.Legal.{Legal, TakesFrom}
 use Rattle.and_laws.specs.Fates.{in_hand_count}
 use Rattle.and_kept.specs.Lanes.{Roads, parcels_at, without_first}
@@ -67,7 +68,7 @@ legal_take plan s a q i may is front = record {
 }
 
 pub after_take : (plan : Plan) (s : State) (k : Kept) (a : Actor) (held : Held) → Stands k s → k.roads.settings ≡ plan.settings → held.need ≡ installed_of plan s (node_of a) → IsAfter plan s (Take a held.queue held.packet) k (record k { roads = taken k.roads a held })
-unfolding after holds_after move_of word_of ports_move_of step_of ports_after programmes_after
+unfolding after holds_after move_of word_of ports_move_of step_of usage_move_of usage_after ports_after programmes_after
 after_take plan s k a held st settings need =
     record {
       stands = record {
@@ -77,9 +78,12 @@ after_take plan s k a held st settings need =
         flow = as_kept plan s k (λ v f. flow_after f (Grab (hand_place v a) (queue_place v (node_of a) held.queue) held)) settings st.flow
             ∙ ap (λ n. flow_after s.flow (Grab (hand_place plan.settings a) (queue_place plan.settings (node_of a) held.queue) (record { packet = held.packet; need = n; queue = held.queue }))) need;
         holds = st.holds;
+        usage = st.usage;
       };
       settings = refl;
       limit = refl;
+      room = omega arith;
+      known = refl;
     }
 
 -- one more hand is full

@@ -1,8 +1,9 @@
 -- How a book's fields stand for the state after its lines.
-use Rattle.std.specs.Prelude.{◌≡◌, ℕ, ◌-◌, ◌≤◌, List, length, map, vec_len, vec_capacity}
+use Rattle.std.specs.Prelude.{◌≡◌, ℕ, ◌-◌, ◌<◌, ◌≤◌, true, List, length, map, vec_len, vec_capacity}
 use Rattle.std.specs.List.{All}
 use Rattle.and_policy.specs.declared.port.Port.{Port}
 use Rattle.and_events.specs.declared.event.Event.{Event}
+use Rattle.and_events.specs.declared.event.Given.{Given}
 use Rattle.and_events.specs.declared.event.Line.{Line}
 use Rattle.and_events.specs.declared.event.Node.{Node}
 use Rattle.and_events.specs.declared.event.Queue.TheVariants.{Wire}
@@ -11,10 +12,12 @@ use Rattle.and_events.specs.Places.{queue_place, seat_of, actor_of, IsNode}
 use Rattle.and_events.specs.State.{State, NodeHolds, state}
 use Rattle.and_events.specs.Run.{Run, past}
 use Rattle.and_events.specs.Sound.{IsSound, IsBuilt}
+use Rattle.and_events.specs.Usage.{orders_of}
 use Rattle.and_laws.specs.Fates.{in_hand_count}
 use Rattle.and_laws.specs.Sizes.{HasSizes, HasNodes}
 use Rattle.and_kept.specs.Lanes.{Roads, parcels_at}
-use Rattle.and_kept.specs.Nodes.{Progressed}
+use Rattle.and_kept.specs.Nodes.{Progressed, HasOrderRoom}
+use Rattle.and_review.specs.Views.{ReviewsView, Begins}
 use Rattle.and_book.specs.declared.book.Book.TheInside.{Inside}
 use Rattle.and_book.specs.Views.{BookView, IsPacket}
 use Rattle.and_events.specs.Places.{IsSmall}
@@ -26,9 +29,10 @@ pub record Kept : Type 0 where
   pub progress : Progressed
   pub ports : List (List Port)
   pub roads : Roads
+  pub reviews : ReviewsView
 
 abbrev pub kept_of : Inside → Kept
-kept_of b = record { next = b.next; progress = b.progress; ports = b.ports; roads = b.traffic }
+kept_of b = record { next = b.next; progress = b.progress; ports = b.ports; roads = b.traffic; reviews = b.reviews }
 
 -- what is held at the nodes
 abbrev pub holds_of : Kept → NodeHolds
@@ -44,11 +48,17 @@ pub record Stands (k : Kept) (s : State) : Type 0 where
   pub ports : k.ports ≡ s.ports
   pub flow : k.roads.flow ≡ s.flow
   pub holds : holds_of k ≡ s.node_holds
+  pub usage : k.reviews.used ≡ s.usage
 
 -- what never changes in it: the settings, and for how many entries there is room
 pub record IsSized (plan : Plan) (k : Kept) : Type 0 where
   pub settings : k.roads.settings ≡ plan.settings
   pub limit : k.progress.limit ≡ length plan.log
+
+-- there is room for the usage of a key for each step and one more, and the entries that a review knows are the first ones of the log
+pub record HasReviews (plan : Plan) (k : Kept) : Type 0 where
+  pub room : length plan.steps < k.reviews.room
+  pub known : Begins k.reviews.known k.progress.programmes.log
 
 -- each parcel in a queue has its packet's frame, the queues' packets are those of the parcels, and what came to a node by its
 -- `wire` queue has the outer bytes of its packet's newest send
@@ -70,6 +80,14 @@ pub record Keeps (plan : Plan) (threads : ℕ) (lines : List Line) (k : Kept) (s
   pub small : IsSmall plan.settings
   pub sizes : HasSizes plan k.roads.flow
   pub nodes : HasNodes plan k.progress.programmes
+  pub reviews : HasReviews plan k
 
-abbrev pub IsBook : Inside → Type 0
-IsBook b = Keeps b.plan b.threads b.lines.items (kept_of b) (vec_capacity b.lines - vec_len b.lines)
+-- the orders are those of a review of the usage so far, and have room
+pub record AreDue (plan : Plan) (k : Kept) (orders : List Given) : Type 0 where
+  pub are : orders ≡ orders_of plan.settings k.progress.programmes.log k.reviews.used
+  pub room : HasOrderRoom k.progress orders
+
+-- where it is prepared for a review, the orders are due
+pub record IsBook (b : Inside) : Type 0 where
+  pub keeps : Keeps b.plan b.threads b.lines.items (kept_of b) (vec_capacity b.lines - vec_len b.lines)
+  pub due : b.prepared ≡ true → AreDue b.plan (kept_of b) b.orders.items

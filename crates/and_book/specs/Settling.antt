@@ -8,10 +8,13 @@ use Rattle.and_policy.specs.declared.decision.Landing.{Landing}
 use Rattle.and_policy.specs.declared.decision.Outcome.{Outcome}
 use Rattle.and_policy.specs.declared.decision.Outcome.TheVariants as outcomes
 use Rattle.and_policy.specs.declared.decision.Way.{Way}
+use Rattle.and_policy.specs.declared.port.UsageKey.{UsageKey}
 use Rattle.and_policy.specs.Ingress.{landing}
 use Rattle.and_policy.specs.Owners.{routed, located}
 use Rattle.and_policy.specs.Programmes.{leaving}
 use Rattle.and_events.specs.declared.event.Actor.{Actor}
+use Rattle.and_events.specs.declared.event.Departure.{Departure}
+use Rattle.and_events.specs.declared.event.Departure.TheVariants.{Allowed}
 use Rattle.and_events.specs.declared.event.Event.{Event}
 use Rattle.and_events.specs.declared.event.Event.TheVariants.{Egress, Ingress}
 use Rattle.and_events.specs.declared.event.Queue.TheVariants.{Out, Wire}
@@ -19,6 +22,7 @@ use Rattle.and_events.specs.declared.plan.Plan.{Plan}
 use Rattle.and_events.specs.Places.{node_of, IsWorker, IsGatewayWorker}
 use Rattle.and_events.specs.State.{State, carried_at, packet_at, tuple_at, programme_of, host_of}
 use Rattle.and_events.specs.Legal.{Decides, entries_at, IsRouteTarget, IsRedirectTarget}
+use Rattle.and_events.specs.Usage.{UsageMove, Unused, Uses}
 use Rattle.and_kept.specs.Settling.{arrival_of, departure_of}
 
 -- the number by which it was decided
@@ -84,3 +88,8 @@ pub record MaySettleEgress (plan : Plan) (s : State) (a : Actor) (i : ℕ) (d : 
 abbrev pub IsLeaving : Outcome → Type 0
 IsLeaving (outcomes.Leaving said) = Unit {0}
 IsLeaving _ = ⊥
+
+-- what counts as used of a packet of this key and so many bytes
+abbrev pub use_of : UsageKey → ℕ → Departure → UsageMove
+use_of key bytes (Allowed by sealed dest end) = Uses key bytes
+use_of key bytes _ = Unused

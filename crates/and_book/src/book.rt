@@ -9,10 +9,11 @@ ghost use Rattle.and_laws.specs.Fates.{HasOneFateOrPlace};
 ghost use Rattle.and_book.specs.Tales.{newest_first, KeepSeats};
 ghost use Rattle.and_book.specs.Views.{held};
 
-use and_events::{Event, Line, Plan};
+use and_events::{Event, Given, Line, Plan};
 use and_kept::{Progress, Traffic, count_hands, count_nodes};
 use and_policy::NoMemory;
 use and_ports::Ports;
+use and_review::Reviews;
 use and_turn::Tale;
 use std::alloc::Global;
 use std::marker::Model;
@@ -24,10 +25,12 @@ pub struct Book {
     pub(crate) threads: u32,
     pub(crate) lines: Vec<Line>,
     pub(crate) prepared: bool,
+    pub(crate) orders: Vec<Given>,
     pub(crate) next: u32,
     pub(crate) progress: Progress,
     pub(crate) ports: Ports,
     pub(crate) traffic: Traffic,
+    pub(crate) reviews: Reviews,
 }
 
 impl Model for Book {
@@ -60,9 +63,9 @@ impl Tale for Book {
 }
 
 impl Book {
-    /// A book without lines, prepared for no review. It takes all the memory that the parts of the state ever want; lines get theirs
-    /// by [`Book::room`], and the orders of a review by [`Book::prepare`]. After want of memory the plan is gone. `threads` is the number of threads: the seat of an actor is
-    /// 1 + its number modulo `threads`. 0 means no threads, and then every actor has seat 0.
+    /// A book without lines, prepared for no review. It takes all the memory that the parts of the state ever want; lines get theirs by
+    /// [`Book::room`], the orders of a review by [`Book::prepare`]. After want of memory the plan is gone. `threads` is the number of
+    /// threads: the seat of an actor is 1 + its number modulo `threads`. 0 means no threads, and then every actor has seat 0.
     pub fn make(alloc: Global, plan: Plan, threads: u32) -> Result<Book, NoMemory>
         requires sound { IsSound plan }
         requires built { IsBuilt plan }
@@ -76,15 +79,18 @@ impl Book {
         let nodes = count_nodes(settings) as usize;
         let progress = Progress::make(alloc, nodes, plan.log.len() as u32)?;
         let ports = Ports::make(alloc, settings.hosts, plan.names.len() as u32)?;
+        let reviews = Reviews::make(alloc, plan.steps.len() as u32 + 1)?;
         Ok(Book {
             plan,
             threads,
             lines: Vec::new(alloc),
             prepared: false,
+            orders: Vec::new(alloc),
             next: 0,
             progress,
             ports,
             traffic,
+            reviews,
         })
     }
 

@@ -7,8 +7,12 @@
 //! A parcel that is sent to a node gets its outer headers as it enters that node's queue, so what [`Book::take`] hands out from
 //! there has the outer bytes of its packet's newest send. The frame is neither moved nor copied.
 //!
-//! It stands on `and_laws` for what holds in every run, on `and_kept` for the parts of the state, and on `and_turn`, whose
-//! lock hands a book from thread to thread.
+//! A review is two calls. [`Book::prepare`] finds the orders of the usage so far and makes room for them; [`Book::review`] gives each to
+//! its host's programme and takes no memory. It asks for a book that is prepared, and any event ends that, since usage and log may be
+//! other ones then.
+//!
+//! It stands on `and_laws` for what holds in every run, on `and_kept` for the parts of the state, on `and_review` for the usage and its
+//! orders, and on `and_turn`, whose lock hands a book from thread to thread.
 #![tactic(auto)]
 
 mod book;
@@ -16,6 +20,7 @@ mod enabling;
 mod installs;
 mod looks;
 mod packets;
+mod reviews;
 mod steps;
 
 pub use book::Book;

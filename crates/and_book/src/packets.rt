@@ -1,19 +1,24 @@
 //! What actors do with packets.
-ghost use Rattle.std.specs.Prelude.{◌≡◌, ◌+◌, ◌<◌, ◌≤◌, length, slice_index_or};
+ghost use Rattle.std.specs.Prelude.{◌≡◌, ◌+◌, ◌^◌, ◌<◌, ◌≤◌, length, slice_index_or};
 ghost use Rattle.and_events.specs.Places as places;
 ghost use Rattle.and_events.specs.Run.{past};
 ghost use Rattle.and_events.specs.State.{installed_of, no_packet};
+ghost use Rattle.and_events.specs.Usage.{usage_after};
 ghost use Rattle.and_kept.specs.Moves.{source_in};
 ghost use Rattle.and_kept.specs.Settling.{gate_event};
+ghost use Rattle.and_usage.specs.Counting.{bytes_of};
 ghost use Rattle.and_book.specs.Outers.{IsSentBy};
-ghost use Rattle.and_book.specs.Settling.{MaySettleGateway, MaySettleIngress, ingress_event, IsLanding, MaySettleEgress, egress_event, IsLeaving};
+ghost use Rattle.and_book.specs.Settling.{MaySettleGateway, MaySettleIngress, ingress_event, IsLanding, MaySettleEgress, egress_event, IsLeaving, use_of};
 ghost use Rattle.and_book.specs.Views.{now, held, IsSeat, with_line, MayTake, IsPacket};
 
 use crate::book::{Book, note};
-use and_events::{Actor, Event, Held, Items, Packet, Queue, node_of, node_place};
+use and_events::{
+    Actor, Departure, Event, Held, Items, Packet, Queue, host_of, node_of, node_place,
+};
 use and_kept::{Holder, settle_gate, settle_landing, settle_leaving};
 use and_parcel::Parcel;
-use and_policy::{Decision, GateDecision, Landing, Leaving, Outcome};
+use and_policy::{Decision, GateDecision, Landing, Leaving, Outcome, UsageKey};
+use and_review::Reviews;
 
 impl Book {
     /// The actor takes the first packet of its queue: a host worker from `out` only where `wire` is empty. The parcel is the
@@ -103,7 +108,14 @@ impl Book {
         let from = holder(&self.plan.packets, actor, packet);
         let own = self.progress.net(parcel.vm()).unwrap_or(0);
         let said = leaving_in(decision.outcome);
+        let key = UsageKey {
+            host: host_of(node_of(actor)),
+            net: own,
+            ip: from.tuple.destination,
+        };
+        let bytes = parcel.frame().len() as u64;
         let departure = settle_leaving(&mut self.traffic, from, own, parcel, said);
+        note_use(&mut self.reviews, key, bytes, departure);
         note(
             &mut self.lines,
             &mut self.prepared,
@@ -130,6 +142,20 @@ fn holder(packets: &Items<Packet>, actor: Actor, packet: u32) -> Holder
             tuple: found.tuple,
         },
         None => unreachable!(),
+    }
+}
+
+// A packet that may leave its VM counts, whatever becomes of it.
+#[tactic(auto, unfolding(and_events::specs::Usage::usage_after))]
+fn note_use(reviews: &mut Reviews, key: UsageKey, bytes: u64, departure: Departure)
+    requires room { length reviews.old.used < reviews.old.room }
+    requires sum { bytes_of key reviews.old.used + bytes < 2 ^ 64 }
+    ensures used { reviews.new.used ≡ usage_after reviews.old.used (use_of key bytes departure) }
+    ensures room { reviews.old.room ≤ reviews.new.room }
+    ensures known { reviews.new.known ≡ reviews.old.known }
+{
+    if let Departure::Allowed { .. } = departure {
+        reviews.add(key, bytes);
     }
 }
 

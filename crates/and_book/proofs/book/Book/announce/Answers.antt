@@ -8,7 +8,7 @@ use Rattle.and_events.specs.Run.{past}
 use Rattle.and_laws.specs.Fates.{in_hand_count}
 use Rattle.and_book.specs.Views.{BookView, now, IsSeat}
 use Rattle.and_book.specs.Inside.{Kept, kept_of}
-use Rattle.and_book.proofs.More.{keeps_more, seen, room_kept}
+use Rattle.and_book.proofs.More.{unprepared, keeps_more, seen, room_kept}
 use Rattle.and_book.proofs.Outgoing.{still}
 use Rattle.and_book.proofs.Stepping.{legal_announce, after_announce, upto_programme}
 use Rattle.and_book.proofs.book.Book.announce.Goals as goal
@@ -23,8 +23,11 @@ invariant_of-self c =
     let seat = seen x c.args.self.now c.self.view_is (λ (b : BookView). IsSeat b c.args.seat (installer_of c.args.node)) c.requires.seat in
     let room = room_kept x c.args.self.now 1 c.self.view_is c.self.invariant c.requires.room in
     let fits : in_hand_count k.roads.flow ≤ vec_capacity c.note.new.lines - vec_len c.note.new.lines = omega (arith, room, c.note.ensures.len, c.note.ensures.capacity) in
-    let upto = c.announce-upto.ensures.upto ∙ upto_programme plan s k c.args.node c.node_place-place.result c.self.invariant.stands c.node_place-place.ensures.place in
-    keeps_more plan x.threads x.lines.items c.note.new.lines.items k _ _ (vec_capacity c.note.new.lines - vec_len c.note.new.lines) c.args.seat (Announce c.args.node c.announce-upto.result)
-    c.self.invariant (legal_announce plan s c.args.node c.announce-upto.result ready upto) seat c.note.ensures.items
-    (after_announce plan s k c.announce-upto.new.self c.args.node c.node_place-place.result c.announce-upto.result c.self.invariant.stands c.node_place-place.ensures.place c.announce-upto.ensures.programmes c.announce-upto.ensures.limit c.announce-upto.ensures.held)
-    (still plan (past x.lines.items) (Announce c.args.node c.announce-upto.result) k.roads tt c.self.invariant.parcels) fits
+    let upto = c.announce-upto.ensures.upto ∙ upto_programme plan s k c.args.node c.node_place-place.result c.self.invariant.keeps.stands c.node_place-place.ensures.place in
+    record {
+      keeps = keeps_more plan x.threads x.lines.items c.note.new.lines.items k _ _ (vec_capacity c.note.new.lines - vec_len c.note.new.lines) c.args.seat (Announce c.args.node c.announce-upto.result)
+          c.self.invariant.keeps (legal_announce plan s c.args.node c.announce-upto.result ready upto) seat c.note.ensures.items
+          (after_announce plan s k c.announce-upto.new.self c.args.node c.node_place-place.result c.announce-upto.result c.self.invariant.keeps.stands c.node_place-place.ensures.place c.announce-upto.ensures.programmes c.announce-upto.ensures.limit c.announce-upto.ensures.held)
+          (still plan (past x.lines.items) (Announce c.args.node c.announce-upto.result) k.roads tt c.self.invariant.keeps.parcels) fits;
+      due = unprepared c.note.new.prepared c.note.ensures.prepared;
+    }

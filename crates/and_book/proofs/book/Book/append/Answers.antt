@@ -10,7 +10,7 @@ use Rattle.and_events.specs.Run.{past}
 use Rattle.and_laws.specs.Fates.{in_hand_count}
 use Rattle.and_book.specs.Views.{BookView, IsSeat}
 use Rattle.and_book.specs.Inside.{Kept, kept_of}
-use Rattle.and_book.proofs.More.{keeps_more, seen, room_kept}
+use Rattle.and_book.proofs.More.{unprepared, keeps_more, seen, room_kept}
 use Rattle.and_events.specs.declared.event.Event.TheVariants.{Append}
 use Rattle.and_book.proofs.Known.{built_entry}
 use Rattle.and_book.proofs.Plans.{log_room}
@@ -21,17 +21,17 @@ use Rattle.and_book.proofs.book.Book.append.Goals as goal
 pub append-requires : goal.append-requires
 append-requires c =
     let x = c.self.inside in
-    let st = c.self.invariant.stands in
+    let st = c.self.invariant.keeps.stands in
     let e : Entry = c.due_entry-entry.result in
     let due : slice_get x.plan.steps (state x.plan (past x.lines.items)).next ≡ Some (steps.Append e) = ap (slice_get x.plan.steps) (sym st.next) ∙ c.due_entry-entry.ensures in
-    let room = log_room x.plan (past x.lines.items) e c.self.invariant.sound c.self.invariant.run due in
-    omega (arith, room, ap (λ p. length p.log) st.programmes, c.self.invariant.sized.limit)
+    let room = log_room x.plan (past x.lines.items) e c.self.invariant.keeps.sound c.self.invariant.keeps.run due in
+    omega (arith, room, ap (λ p. length p.log) st.programmes, c.self.invariant.keeps.sized.limit)
 
 pub note_ports-requires : goal.note_ports-requires
-note_ports-requires c = built_entry c.self.inside.plan c.self.inside.next c.due_entry-entry.result c.self.invariant.built c.due_entry-entry.ensures
+note_ports-requires c = built_entry c.self.inside.plan c.self.inside.next c.due_entry-entry.result c.self.invariant.keeps.built c.due_entry-entry.ensures
 
 pub overflow_add-self : goal.overflow_add-self
-overflow_add-self c = omega (arith, slice_get_within c.self.inside.plan.steps c.self.inside.next _ c.due_entry-entry.ensures, c.self.invariant.sound.few_steps)
+overflow_add-self c = omega (arith, slice_get_within c.self.inside.plan.steps c.self.inside.next _ c.due_entry-entry.ensures, c.self.invariant.keeps.sound.few_steps)
 
 pub invariant_of-self : goal.invariant_of-self
 invariant_of-self c =
@@ -39,12 +39,15 @@ invariant_of-self c =
     let plan : Plan = x.plan in
     let s : State = state plan (past x.lines.items) in
     let k : Kept = kept_of x in
-    let st = c.self.invariant.stands in
+    let st = c.self.invariant.keeps.stands in
     let e : Entry = c.due_entry-entry.result in
     let seat = seen x c.args.self.now c.self.view_is (λ (b : BookView). IsSeat b c.args.seat Driver) c.requires.seat in
     let room = room_kept x c.args.self.now 1 c.self.view_is c.self.invariant c.requires.room in
     let fits : in_hand_count k.roads.flow ≤ vec_capacity c.note.new.lines - vec_len c.note.new.lines = omega (arith, room, c.note.ensures.len, c.note.ensures.capacity) in
-    keeps_more plan x.threads x.lines.items c.note.new.lines.items k _ _ (vec_capacity c.note.new.lines - vec_len c.note.new.lines) c.args.seat (Append x.next)
-    c.self.invariant (legal_append plan s x.next e st.next c.due_entry-entry.ensures) seat c.note.ensures.items
-    (after_append plan s k c.append.new.self c.note_ports.new.ports x.next e st c.due_entry-entry.ensures c.append.ensures.programmes c.note_ports.ensures c.append.ensures.limit c.append.ensures.held)
-    (still plan (past x.lines.items) (Append x.next) k.roads tt c.self.invariant.parcels) fits
+    record {
+      keeps = keeps_more plan x.threads x.lines.items c.note.new.lines.items k _ _ (vec_capacity c.note.new.lines - vec_len c.note.new.lines) c.args.seat (Append x.next)
+          c.self.invariant.keeps (legal_append plan s x.next e st.next c.due_entry-entry.ensures) seat c.note.ensures.items
+          (after_append plan s k c.append.new.self c.note_ports.new.ports x.next e st c.due_entry-entry.ensures c.append.ensures.programmes c.note_ports.ensures c.append.ensures.limit c.append.ensures.held)
+          (still plan (past x.lines.items) (Append x.next) k.roads tt c.self.invariant.keeps.parcels) fits;
+      due = unprepared c.note.new.prepared c.note.ensures.prepared;
+    }

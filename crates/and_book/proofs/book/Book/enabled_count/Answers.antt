@@ -20,7 +20,7 @@ returns c =
     let plan : Plan = x.plan in
     let h : List Event = past x.lines.items in
     let k : Kept = kept_of x in
-    let inv = c.self.invariant in
+    let inv = c.self.invariant.keeps in
     let driver : Bool = c.enabled.result in
     let drives : IsTrue driver ↔ Enabled plan (state plan h) Driver = seen x c.args.self.now c.self.view_is (λ (b : BookView). IsTrue driver ↔ Enabled b.plan (now b) Driver) c.enabled.ensures in
     subst (λ (b : BookView). (actors : List Actor) × AreEnabled b.plan (now b) actors × (c.count_acting.result ≡ length actors)) c.self.view_is

@@ -17,23 +17,23 @@ use Rattle.and_kept.specs.Lanes.{Roads}
 use Rattle.and_book.specs.Views.{BookView, now, IsSeat}
 use Rattle.and_book.specs.Inside.{Kept, kept_of}
 use Rattle.and_book.proofs.Holding.{IsMarked, hold_there, legal_hold, after_hold, parcels_stay}
-use Rattle.and_book.proofs.More.{keeps_more, seen, room_kept}
+use Rattle.and_book.proofs.More.{unprepared, keeps_more, seen, room_kept}
 use Rattle.and_book.proofs.Outgoing.{still}
 use Rattle.and_book.proofs.book.Book.hold.Goals as goal
 
 pub note_hold-requires-clause-node : goal.note_hold-requires-clause-node
 note_hold-requires-clause-node c =
     let x = c.self.inside in
-    let inv = c.self.invariant in
+    let inv = c.self.invariant.keeps in
     let node : Node = c.due_hold-due.result.0 in
     let told : slice_get x.plan.steps (state x.plan (past x.lines.items)).next ≡ Some (steps.Hold node c.due_hold-due.result.1) = ap (slice_get x.plan.steps) (sym inv.stands.next) ∙ c.due_hold-due.ensures in
     subst (λ (v : Settings). IsNode v node) (sym inv.sized.settings) (hold_there x.plan (past x.lines.items) node c.due_hold-due.result.1 inv.sound told)
 
 pub note_hold-requires-clause-nodes : goal.note_hold-requires-clause-nodes
-note_hold-requires-clause-nodes c = c.self.invariant.nodes.ops ∙ ap (λ (v : Settings). node_count v) (sym c.self.invariant.sized.settings)
+note_hold-requires-clause-nodes c = c.self.invariant.keeps.nodes.ops ∙ ap (λ (v : Settings). node_count v) (sym c.self.invariant.keeps.sized.settings)
 
 pub overflow_add-self : goal.overflow_add-self
-overflow_add-self c = omega (arith, slice_get_within c.self.inside.plan.steps c.self.inside.next _ c.due_hold-due.ensures, c.self.invariant.sound.few_steps)
+overflow_add-self c = omega (arith, slice_get_within c.self.inside.plan.steps c.self.inside.next _ c.due_hold-due.ensures, c.self.invariant.keeps.sound.few_steps)
 
 pub invariant_of-self : goal.invariant_of-self
 invariant_of-self c =
@@ -41,7 +41,7 @@ invariant_of-self c =
     let plan : Plan = x.plan in
     let s : State = state plan (past x.lines.items) in
     let k : Kept = kept_of x in
-    let inv = c.self.invariant in
+    let inv = c.self.invariant.keeps in
     let st = inv.stands in
     let node : Node = c.due_hold-due.result.0 in
     let what : What = c.due_hold-due.result.1 in
@@ -49,11 +49,14 @@ invariant_of-self c =
     let ready : CanHold plan s node what =
     seen x c.args.self.now c.self.view_is (λ (b : BookView). (m : Node) (w : What) → slice_get b.plan.steps (now b).next ≡ Some (steps.Hold m w) → CanHold b.plan (now b) m w) c.requires.ready node what told in
     let seat = seen x c.args.self.now c.self.view_is (λ (b : BookView). IsSeat b c.args.seat Driver) c.requires.seat in
-    let room = room_kept x c.args.self.now 1 c.self.view_is inv c.requires.room in
+    let room = room_kept x c.args.self.now 1 c.self.view_is c.self.invariant c.requires.room in
     let is : IsMarked k c.note_hold.new.progress c.note_hold.new.traffic node what true = record { installs = c.note_hold.ensures.installs; forwards = c.note_hold.ensures.forwards } in
     let fits : in_hand_count c.note_hold.new.traffic.flow ≤ vec_capacity c.note.new.lines - vec_len c.note.new.lines =
     omega (arith, ap (λ (t : Roads). in_hand_count t.flow) is.forwards, room, c.note.ensures.len, c.note.ensures.capacity) in
-    keeps_more plan x.threads x.lines.items c.note.new.lines.items k _ _ (vec_capacity c.note.new.lines - vec_len c.note.new.lines) c.args.seat (Hold x.next)
-    inv (legal_hold plan s x.next c.due_hold-due.result.0 c.due_hold-due.result.1 st.next c.due_hold-due.ensures ready) seat c.note.ensures.items
-    (after_hold plan s k c.note_hold.new.progress c.note_hold.new.traffic x.next node what st inv.sized.settings c.due_hold-due.ensures is)
-    (parcels_stay plan (Hold x.next ∷ past x.lines.items) k c.note_hold.new.progress c.note_hold.new.traffic node what true is (still plan (past x.lines.items) (Hold x.next) k.roads tt inv.parcels)) fits
+    record {
+      keeps = keeps_more plan x.threads x.lines.items c.note.new.lines.items k _ _ (vec_capacity c.note.new.lines - vec_len c.note.new.lines) c.args.seat (Hold x.next)
+          inv (legal_hold plan s x.next c.due_hold-due.result.0 c.due_hold-due.result.1 st.next c.due_hold-due.ensures ready) seat c.note.ensures.items
+          (after_hold plan s k c.note_hold.new.progress c.note_hold.new.traffic x.next node what st inv.sized.settings c.due_hold-due.ensures is)
+          (parcels_stay plan (Hold x.next ∷ past x.lines.items) k c.note_hold.new.progress c.note_hold.new.traffic node what true is (still plan (past x.lines.items) (Hold x.next) k.roads tt inv.parcels)) fits;
+      due = unprepared c.note.new.prepared c.note.ensures.prepared;
+    }

@@ -13,7 +13,7 @@ use Rattle.and_events.specs.declared.plan.Settings.{Settings}
 use Rattle.and_kept.specs.Lanes.{Roads}
 use Rattle.and_kept.specs.Moves.{entered}
 use Rattle.and_book.specs.Inside.{Kept, Keeps, kept_of}
-use Rattle.and_book.proofs.More.{keeps_more, seen, room_kept, as_kept}
+use Rattle.and_book.proofs.More.{unprepared, keeps_more, seen, room_kept, as_kept}
 use Rattle.and_events.specs.declared.event.Event.TheVariants.{Inject}
 use Rattle.and_events.specs.Legal.{KnowsVm}
 use Rattle.and_events.specs.declared.event.Node.TheVariants.{Host}
@@ -34,14 +34,14 @@ pub overflow_add-self : goal.overflow_add-self
 overflow_add-self c =
     let x = c.self.inside in
     let due = seen x c.args.self.now c.self.view_is (λ (b : BookView). slice_get b.plan.steps (now b).next ≡ Some (steps.Inject c.args.parcel.packet)) c.requires.due in
-    omega (arith, slice_get_within x.plan.steps _ _ due, c.self.invariant.sound.few_steps, c.self.invariant.stands.next)
+    omega (arith, slice_get_within x.plan.steps _ _ due, c.self.invariant.keeps.sound.few_steps, c.self.invariant.keeps.stands.next)
 
 pub enter-full-requires : goal.enter-full-requires
 enter-full-requires c =
     let x = c.self.inside in
     let plan : Plan = x.plan in
     let s : State = state plan (past x.lines.items) in
-    let inv = c.self.invariant in
+    let inv = c.self.invariant.keeps in
     let i = c.args.parcel.packet in
     let ready = seen x c.args.self.now c.self.view_is (λ (b : BookView). KnowsVm b.plan (now b) (home b.plan (now b) i) (packet_at b.plan i).vm) c.requires.ready in
     let parcel = seen x c.args.self.now c.self.view_is (λ (b : BookView). IsPacket b.plan c.args.parcel) c.requires.parcel in
@@ -57,7 +57,7 @@ invariant_of-self c =
     let plan : Plan = x.plan in
     let s : State = state plan (past x.lines.items) in
     let k : Kept = kept_of x in
-    let inv = c.self.invariant in
+    let inv = c.self.invariant.keeps in
     let st = inv.stands in
     let i = c.args.parcel.packet in
     let full = c.enter-full.result in
@@ -70,7 +70,7 @@ invariant_of-self c =
     let ready = seen x c.args.self.now c.self.view_is (λ (b : BookView). KnowsVm b.plan (now b) (home b.plan (now b) i) (packet_at b.plan i).vm) c.requires.ready in
     let parcel = seen x c.args.self.now c.self.view_is (λ (b : BookView). IsPacket b.plan c.args.parcel) c.requires.parcel in
     let seat = seen x c.args.self.now c.self.view_is (λ (b : BookView). IsSeat b c.args.seat Driver) c.requires.seat in
-    let room = room_kept x c.args.self.now 1 c.self.view_is inv c.requires.room in
+    let room = room_kept x c.args.self.now 1 c.self.view_is c.self.invariant c.requires.room in
     let host : h ≡ home plan s i =
     c.unwrap_or-host.ensures
     ∙ ap (λ o. unwrap_or o 0)
@@ -85,9 +85,12 @@ invariant_of-self c =
     let same = enter_holds k.roads.flow _ h i full refl in
     let after' = record k { next = k.next + 1; roads = entered k.roads h c.args.parcel full } in
     let is : Inject x.next c.packet-packet.result full ≡ Inject x.next i full = ap (λ j. Inject x.next j full) c.packet-packet.ensures in
-    subst (λ (r : Roads). Keeps plan x.threads lines' (record k { next = k.next + 1; roads = r }) spare') (sym c.enter-full.ensures.entered)
-    (keeps_more plan x.threads lines lines' k after' _ spare' c.args.seat (Inject x.next i full)
-    inv (legal_inject plan s x.next i full st.next due ready ended) seat (c.note.ensures.items ∙ ap (λ (y : Event). lines ++ record { seat = c.args.seat; event = y } ∷ []) is)
-    (after_inject plan s k x.next h c.args.parcel full st inv.sized.settings host)
-    (injected_to plan (past lines) x.next k.roads after'.roads c.args.parcel h full (omega (arith, ready.2, host)) refl refl parcel inv.parcels)
-    (omega (arith, room, same, c.note.ensures.len, c.note.ensures.capacity)))
+    record {
+      keeps = subst (λ (r : Roads). Keeps plan x.threads lines' (record k { next = k.next + 1; roads = r }) spare') (sym c.enter-full.ensures.entered)
+          (keeps_more plan x.threads lines lines' k after' _ spare' c.args.seat (Inject x.next i full)
+          inv (legal_inject plan s x.next i full st.next due ready ended) seat (c.note.ensures.items ∙ ap (λ (y : Event). lines ++ record { seat = c.args.seat; event = y } ∷ []) is)
+          (after_inject plan s k x.next h c.args.parcel full st inv.sized.settings host)
+          (injected_to plan (past lines) x.next k.roads after'.roads c.args.parcel h full (omega (arith, ready.2, host)) refl refl parcel inv.parcels)
+          (omega (arith, room, same, c.note.ensures.len, c.note.ensures.capacity)));
+      due = unprepared c.note.new.prepared c.note.ensures.prepared;
+    }

@@ -1,6 +1,7 @@
-use Rattle.std.proofs.Common.{◌≡◌, ◌<◌, ◌-◌, ◌∙◌, refl, sym, ap, subst, ◌∷◌, ◌++◌, [], List, vec_len, vec_capacity, length, arith}
+use Rattle.std.proofs.Common.{ℕ, ◌≡◌, ◌<◌, ◌-◌, ◌∙◌, refl, sym, ap, subst, ◌∷◌, ◌++◌, [], List, vec_len, vec_capacity, length, arith}
 use Rattle.std.specs.Prelude.{unwrap_or}
 use Rattle.and_policy.specs.declared.decision.Outcome.TheVariants as outcomes
+use Rattle.and_policy.specs.declared.port.UsageKey.{UsageKey}
 use Rattle.and_policy.specs.Programmes.{net_of_vm}
 use Rattle.and_events.specs.declared.event.Event.{Event}
 use Rattle.and_events.specs.declared.event.Event.TheVariants.{Egress}
@@ -8,8 +9,9 @@ use Rattle.and_events.specs.declared.event.Line.{Line}
 use Rattle.and_events.specs.declared.event.Queue.TheVariants.{Out, Seal}
 use Rattle.and_events.specs.declared.plan.Plan.{Plan}
 use Rattle.and_events.specs.Places.{hand_place, node_of, HasQueue}
-use Rattle.and_events.specs.State.{State, state, move_of, tuple_at, source_net, departs, carried_at}
+use Rattle.and_events.specs.State.{State, state, host_of, move_of, tuple_at, source_net, departs, carried_at}
 use Rattle.and_events.specs.Run.{past}
+use Rattle.and_usage.specs.Counting.{bytes_of}
 use Rattle.and_laws.proofs.Capacity.{queues_within}
 use Rattle.and_kept.specs.declared.traffic.Holder.{Holder}
 use Rattle.and_kept.specs.Lanes.{Roads}
@@ -18,19 +20,21 @@ use Rattle.and_kept.specs.Settling.{LeadsLeaving, departure_of}
 use Rattle.and_book.specs.Views.{BookView, now, IsSeat, IsPacket}
 use Rattle.and_book.specs.Settling.{MaySettleEgress, leaving_said, egress_event}
 use Rattle.and_book.specs.Inside.{Kept, Keeps, kept_of}
-use Rattle.and_book.proofs.More.{seen, as_kept}
+use Rattle.and_book.proofs.More.{unprepared, seen, as_kept}
 use Rattle.and_book.proofs.Departing.{seals_at, leads_leaving, legal_egress}
-use Rattle.and_book.proofs.FromHand.{IsFrom, departs_from, egress_moves}
+use Rattle.and_book.proofs.FromHand.{IsFrom, IsUsed, egress_uses, departs_from, egress_moves}
+use Rattle.and_book.proofs.Reviewing.{use_has_room}
 use Rattle.and_book.proofs.Settled.{worker_handles}
 use Rattle.and_book.proofs.Settling.{known_packet, may_move, own_net, settled_keeps}
 use Rattle.and_book.proofs.Unsent.{all_hops}
+use Rattle.and_book.proofs.Using.{sum_fits}
 use Rattle.and_book.proofs.book.Book.settle_egress.Goals as goal
 
 pub holder-from-requires : goal.holder-from-requires
 holder-from-requires c =
     let x = c.self.inside in
     let ready = seen x c.args.self.now c.self.view_is (λ (b : BookView). MaySettleEgress b.plan (now b) c.args.actor c.args.parcel.packet c.args.decision) c.requires.ready in
-    let known = known_packet x.plan x.threads x.lines.items (kept_of x) _ c.self.invariant c.args.actor ready.decides.need Out c.args.parcel ready.decides.holds in
+    let known = known_packet x.plan x.threads x.lines.items (kept_of x) _ c.self.invariant.keeps c.args.actor ready.decides.need Out c.args.parcel ready.decides.holds in
     omega (arith, known, c.packet-packet.ensures)
 
 pub settle_leaving-departure-requires-clause-may : goal.settle_leaving-departure-requires-clause-may
@@ -38,7 +42,7 @@ settle_leaving-departure-requires-clause-may c =
     let x = c.self.inside in
     let a = c.args.actor in
     let ready = seen x c.args.self.now c.self.view_is (λ (b : BookView). MaySettleEgress b.plan (now b) a c.args.parcel.packet c.args.decision) c.requires.ready in
-    may_move x.plan x.threads x.lines.items (kept_of x) _ c.self.invariant a ready.decides.need Out c.args.parcel ready.decides.holds c.holder-from.result
+    may_move x.plan x.threads x.lines.items (kept_of x) _ c.self.invariant.keeps a ready.decides.need Out c.args.parcel ready.decides.holds c.holder-from.result
     ready.decides.actor (worker_handles a ready.worker) (ap (λ (f : Holder). f.actor) c.holder-from.ensures)
 
 pub settle_leaving-departure-requires-clause-seals : goal.settle_leaving-departure-requires-clause-seals
@@ -50,7 +54,7 @@ settle_leaving-departure-requires-clause-seals c =
 pub settle_leaving-departure-requires-clause-leads : goal.settle_leaving-departure-requires-clause-leads
 settle_leaving-departure-requires-clause-leads c =
     let x = c.self.inside in
-    let inv = c.self.invariant in
+    let inv = c.self.invariant.keeps in
     let a = c.args.actor in
     let i = c.args.parcel.packet in
     let ready = seen x c.args.self.now c.self.view_is (λ (b : BookView). MaySettleEgress b.plan (now b) a i c.args.decision) c.requires.ready in
@@ -65,13 +69,27 @@ settle_leaving-departure-requires-clause-leads c =
     (subst (λ n. LeadsLeaving x.plan.settings n c.leaving_in-said.result) (sym net)
     (subst (LeadsLeaving x.plan.settings (source_net x.plan i)) (sym said) (leads_leaving x.plan (past x.lines.items) a i c.args.decision.at inv.sound inv.built inv.run ready.decides.actor ready.worker)))
 
+pub note_use-requires-clause-room : goal.note_use-requires-clause-room
+note_use-requires-clause-room c =
+    let x = c.self.inside in
+    use_has_room x.plan x.threads x.lines.items (kept_of x) _ c.self.invariant.keeps
+
+pub note_use-requires-clause-sum : goal.note_use-requires-clause-sum
+note_use-requires-clause-sum c =
+    let x = c.self.inside in
+    let inv = c.self.invariant.keeps in
+    let i = c.args.parcel.packet in
+    let parcel = seen x c.args.self.now c.self.view_is (λ (b : BookView). IsPacket b.plan c.args.parcel) c.requires.parcel in
+    let key : UsageKey = record { host = c.host_of.result; net = c.unwrap_or-own.result; ip = c.holder-from.result.tuple.destination } in
+    omega (arith, sum_fits x.plan (past x.lines.items) key i inv.sound inv.run, ap (bytes_of key) inv.stands.usage, ap (length {A = ℕ}) (c.frame.ensures ∙ parcel.frame))
+
 pub invariant_of-self : goal.invariant_of-self
 invariant_of-self c =
     let x = c.self.inside in
     let plan : Plan = x.plan in
     let s : State = state plan (past x.lines.items) in
     let k : Kept = kept_of x in
-    let inv = c.self.invariant in
+    let inv = c.self.invariant.keeps in
     let st = inv.stands in
     let a = c.args.actor in
     let i = c.args.parcel.packet in
@@ -92,6 +110,11 @@ invariant_of-self c =
     c.unwrap_or-own.ensures
     ∙ ap (λ o. unwrap_or o 0) (c.net.ensures ∙ (ap (net_of_vm k.progress.programmes.log) (c.vm.ensures ∙ parcel.vm)
     ∙ own_net plan x.threads lines k _ inv a ready.decides.need Out c.args.parcel ready.decides.holds)) in
+    let key : UsageKey = record { host = c.host_of.result; net = own; ip = f.tuple.destination } in
+    let key_is : key ≡ record { host = host_of here; net = source_net plan i; ip = (tuple_at plan i).destination } =
+    ap (λ n. record { host = n; net = own; ip = f.tuple.destination }) (c.host_of.ensures ∙ ap host_of c.node_of.ensures)
+    ∙ (ap (λ n. record { host = host_of here; net = n; ip = f.tuple.destination }) net
+    ∙ ap (λ (y : Holder). record { host = host_of here; net = source_net plan i; ip = y.tuple.destination }) from) in
     let word : outcomes.Leaving c.leaving_in-said.result ≡ outcomes.Leaving (leaving_said plan s a i d.at) = sym c.leaving_in-said.ensures ∙ ready.said in
     let said : c.leaving_in-said.result ≡ leaving_said plan s a i d.at = cc word in
     let departed : departure ≡ departure_of plan.settings s.flow here i (leaving_said plan s a i d.at) =
@@ -109,9 +132,16 @@ invariant_of-self c =
     let left = all_hops plan (past lines) a i d.at inv.sound inv.run ready.worker ready.decides in
     let hops : 0 < (carried_at s i).hops = omega (arith, left, inv.sound.settings.hop_limit.0) in
     let leads = leads_leaving plan (past lines) a i d.at inv.sound inv.built inv.run ready.decides.actor ready.worker in
-    subst (λ (r : Roads). Keeps plan x.threads lines' (record k { roads = r }) spare') (sym c.settle_leaving-departure.ensures.moved)
-    (settled_keeps plan x.threads lines k _ inv a ready.decides.need Out c.args.parcel ready.decides.holds lines' spare' c.args.seat e f _
-    (legal_egress plan s a i d.at d.way ready.decides ready.worker hops leads sized (queues_within plan (past lines) inv.run)) tt refl from seat
-    (c.note.ensures.items ∙ ap (λ (y : Event). lines ++ record { seat = c.args.seat; event = y } ∷ []) is) parcel move
-    (subst (IsFrom (hand_place plan.settings a) i) (egress_moves plan s a i d.at d.way _) (departs_from plan.settings (hand_place plan.settings a) i (source_net plan i) here _))
-    (omega (arith, c.note.ensures.len, c.note.ensures.capacity)))
+    record {
+      keeps = subst (λ (r : Roads). Keeps plan x.threads lines' (record k { roads = r; reviews = c.note_use.new.reviews }) spare') (sym c.settle_leaving-departure.ensures.moved)
+          (settled_keeps plan x.threads lines k _ inv a ready.decides.need Out c.args.parcel ready.decides.holds lines' spare' c.args.seat e f _ c.note_use.new.reviews
+          (legal_egress plan s a i d.at d.way ready.decides ready.worker hops leads sized (queues_within plan (past lines) inv.run)) tt refl from seat
+          (c.note.ensures.items ∙ ap (λ (y : Event). lines ++ record { seat = c.args.seat; event = y } ∷ []) is) parcel move
+          (subst (IsFrom (hand_place plan.settings a) i) (egress_moves plan s a i d.at d.way _) (departs_from plan.settings (hand_place plan.settings a) i (source_net plan i) here _))
+          (omega (arith, c.note.ensures.len, c.note.ensures.capacity))
+          (subst (λ (y : Event). IsUsed plan y k.reviews c.note_use.new.reviews) is
+          (subst (λ j. IsUsed plan (Egress a j d.at d.way departure) k.reviews c.note_use.new.reviews) (sym c.packet-packet.ensures)
+          (egress_uses plan a i d.at d.way departure key (length c.frame.result.now) k.reviews c.note_use.new.reviews key_is (ap (length {A = ℕ}) (c.frame.ensures ∙ parcel.frame))
+          c.note_use.ensures.used c.note_use.ensures.room c.note_use.ensures.known))));
+      due = unprepared c.note.new.prepared c.note.ensures.prepared;
+    }

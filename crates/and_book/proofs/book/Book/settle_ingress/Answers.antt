@@ -17,9 +17,9 @@ use Rattle.and_kept.specs.Settling.{arrival_of}
 use Rattle.and_book.specs.Views.{BookView, now, IsSeat, IsPacket}
 use Rattle.and_book.specs.Settling.{MaySettleIngress, landing_said, ingress_event}
 use Rattle.and_book.specs.Inside.{Kept, Keeps, kept_of}
-use Rattle.and_book.proofs.More.{seen, as_kept}
+use Rattle.and_book.proofs.More.{unprepared, seen, as_kept}
 use Rattle.and_book.proofs.Arriving.{legal_ingress}
-use Rattle.and_book.proofs.FromHand.{IsFrom, arrives_from, ingress_moves}
+use Rattle.and_book.proofs.FromHand.{IsFrom, ingress_uses, arrives_from, ingress_moves}
 use Rattle.and_book.proofs.PlainPorts.{ArePlain, plain_ports, leads_landing}
 use Rattle.and_book.proofs.Settled.{worker_handles}
 use Rattle.and_book.proofs.Settling.{known_packet, may_move, settled_keeps}
@@ -29,7 +29,7 @@ pub holder-from-requires : goal.holder-from-requires
 holder-from-requires c =
     let x = c.self.inside in
     let ready = seen x c.args.self.now c.self.view_is (λ (b : BookView). MaySettleIngress b.plan (now b) c.args.actor c.args.parcel.packet c.args.decision) c.requires.ready in
-    let known = known_packet x.plan x.threads x.lines.items (kept_of x) _ c.self.invariant c.args.actor ready.decides.need Wire c.args.parcel ready.decides.holds in
+    let known = known_packet x.plan x.threads x.lines.items (kept_of x) _ c.self.invariant.keeps c.args.actor ready.decides.need Wire c.args.parcel ready.decides.holds in
     omega (arith, known, c.packet-packet.ensures)
 
 pub settle_landing-arrival-requires-clause-may : goal.settle_landing-arrival-requires-clause-may
@@ -37,13 +37,13 @@ settle_landing-arrival-requires-clause-may c =
     let x = c.self.inside in
     let a = c.args.actor in
     let ready = seen x c.args.self.now c.self.view_is (λ (b : BookView). MaySettleIngress b.plan (now b) a c.args.parcel.packet c.args.decision) c.requires.ready in
-    may_move x.plan x.threads x.lines.items (kept_of x) _ c.self.invariant a ready.decides.need Wire c.args.parcel ready.decides.holds c.holder-from.result
+    may_move x.plan x.threads x.lines.items (kept_of x) _ c.self.invariant.keeps a ready.decides.need Wire c.args.parcel ready.decides.holds c.holder-from.result
     ready.decides.actor (worker_handles a ready.worker) (ap (λ (f : Holder). f.actor) c.holder-from.ensures)
 
 pub settle_landing-arrival-requires-clause-leads : goal.settle_landing-arrival-requires-clause-leads
 settle_landing-arrival-requires-clause-leads c =
     let x = c.self.inside in
-    let inv = c.self.invariant in
+    let inv = c.self.invariant.keeps in
     leads_landing x.traffic.settings x.ports (host_of (node_of c.holder-from.result.actor)) c.landing_in-said.result (subst ArePlain (sym inv.stands.ports) (plain_ports x.plan (past x.lines.items) inv.built inv.run))
 
 pub invariant_of-self : goal.invariant_of-self
@@ -52,7 +52,7 @@ invariant_of-self c =
     let plan : Plan = x.plan in
     let s : State = state plan (past x.lines.items) in
     let k : Kept = kept_of x in
-    let inv = c.self.invariant in
+    let inv = c.self.invariant.keeps in
     let st = inv.stands in
     let a = c.args.actor in
     let i = c.args.parcel.packet in
@@ -83,9 +83,12 @@ invariant_of-self c =
     ∙ (ap (arrives plan.settings (carried_at s i) (hand_place plan.settings a) i) arrived ∙ ingress_moves plan s a i d.at d.way _)) in
     let sized = ap (λ g. length g.queues) (sym st.flow) ∙ inv.sizes.queues in
     let leads = leads_landing plan.settings s.ports here (landing_said plan s a i d.at) (plain_ports plan (past lines) inv.built inv.run) in
-    subst (λ (r : Roads). Keeps plan x.threads lines' (record k { roads = r }) spare') (sym c.settle_landing-arrival.ensures.moved)
-    (settled_keeps plan x.threads lines k _ inv a ready.decides.need Wire c.args.parcel ready.decides.holds lines' spare' c.args.seat e f _
-    (legal_ingress plan s a i d.at d.way ready.decides ready.worker inv.sound.settings.gateways.0 leads sized (queues_within plan (past lines) inv.run)) tt refl from seat
-    (c.note.ensures.items ∙ ap (λ (y : Event). lines ++ record { seat = c.args.seat; event = y } ∷ []) is) parcel move
-    (subst (IsFrom (hand_place plan.settings a) i) (ingress_moves plan s a i d.at d.way _) (arrives_from plan.settings (hand_place plan.settings a) i (carried_at s i) _))
-    (omega (arith, c.note.ensures.len, c.note.ensures.capacity)))
+    record {
+      keeps = subst (λ (r : Roads). Keeps plan x.threads lines' (record k { roads = r }) spare') (sym c.settle_landing-arrival.ensures.moved)
+          (settled_keeps plan x.threads lines k _ inv a ready.decides.need Wire c.args.parcel ready.decides.holds lines' spare' c.args.seat e f _ k.reviews
+          (legal_ingress plan s a i d.at d.way ready.decides ready.worker inv.sound.settings.gateways.0 leads sized (queues_within plan (past lines) inv.run)) tt refl from seat
+          (c.note.ensures.items ∙ ap (λ (y : Event). lines ++ record { seat = c.args.seat; event = y } ∷ []) is) parcel move
+          (subst (IsFrom (hand_place plan.settings a) i) (ingress_moves plan s a i d.at d.way _) (arrives_from plan.settings (hand_place plan.settings a) i (carried_at s i) _))
+          (omega (arith, c.note.ensures.len, c.note.ensures.capacity)) (ingress_uses plan a i d.at d.way _ k.reviews));
+      due = unprepared c.note.new.prepared c.note.ensures.prepared;
+    }

@@ -10,7 +10,7 @@ use Rattle.and_events.specs.Run.{past}
 use Rattle.and_laws.specs.Fates.{in_hand_count}
 use Rattle.and_book.specs.Views.{BookView, now, IsSeat}
 use Rattle.and_book.specs.Inside.{Kept, kept_of}
-use Rattle.and_book.proofs.More.{keeps_more, seen, room_kept}
+use Rattle.and_book.proofs.More.{unprepared, keeps_more, seen, room_kept}
 use Rattle.and_book.proofs.Outgoing.{still}
 use Rattle.and_book.proofs.Stepping.{legal_wait, after_wait}
 use Rattle.and_book.proofs.book.Book.wait.Goals as goal
@@ -26,6 +26,9 @@ invariant_of-self c =
     let seat = seen x c.args.self.now c.self.view_is (λ (b : BookView). IsSeat b c.args.seat Driver) c.requires.seat in
     let room = room_kept x c.args.self.now 1 c.self.view_is c.self.invariant c.requires.room in
     let fits : in_hand_count k.roads.flow ≤ vec_capacity c.note.new.lines - vec_len c.note.new.lines = omega (arith, room, c.note.ensures.len, c.note.ensures.capacity) in
-    keeps_more plan x.threads x.lines.items c.note.new.lines.items k _ _ (vec_capacity c.note.new.lines - vec_len c.note.new.lines) c.args.seat (Wait x.next)
-    c.self.invariant (legal_wait plan s x.next c.self.invariant.stands.next due ready) seat c.note.ensures.items
-    (after_wait plan s k x.next c.self.invariant.stands) (still plan (past x.lines.items) (Wait x.next) k.roads tt c.self.invariant.parcels) fits
+    record {
+      keeps = keeps_more plan x.threads x.lines.items c.note.new.lines.items k _ _ (vec_capacity c.note.new.lines - vec_len c.note.new.lines) c.args.seat (Wait x.next)
+          c.self.invariant.keeps (legal_wait plan s x.next c.self.invariant.keeps.stands.next due ready) seat c.note.ensures.items
+          (after_wait plan s k x.next c.self.invariant.keeps.stands) (still plan (past x.lines.items) (Wait x.next) k.roads tt c.self.invariant.keeps.parcels) fits;
+      due = unprepared c.note.new.prepared c.note.ensures.prepared;
+    }

@@ -1,45 +1,87 @@
 -- Chains after one operation more.
 use Rattle.std.proofs.Common.{◌≡◌, ℕ, zero, suc, ◌+◌, ◌<◌, ◌≤◌, Bool, true, false, List, [], ◌∷◌, ◌++◌, length, take, Option, Some, None, refl, ap, sym, ◌∙◌, subst, arith, inl, inr, length-append, unwrap_or}
-use Rattle.std.specs.Prelude.{if◌then◌else◌, slice_get, slice_index_or}
-use Rattle.std.proofs.lemmas.Bool.{cases_lt, eq-eqb}
+use Rattle.std.specs.Prelude.{if◌then◌else◌, ◌==◌, slice_get, slice_index_or}
+use Rattle.std.proofs.lemmas.Bool.{cases_Bool, cases_lt, eq-eqb}
 use Rattle.std.proofs.lemmas.List.{take-append-le}
 use Rattle.std.proofs.Math.Seq.{take-length}
 use Rattle.std.proofs.lemmas.Option.{slice_get_within}
+use Rattle.and_policy.specs.declared.entry.Entry.{Entry}
 use Rattle.and_policy.specs.declared.entry.Op.{Op}
 use Rattle.and_policy.specs.declared.entry.Op.TheVariants as ops
 use Rattle.and_policy.specs.declared.entry.Order.{Order}
 use Rattle.and_policy.specs.Programmes.{is_net}
 use Rattle.and_tables.specs.declared.chain.Chain.{Chain}
+use Rattle.and_tables.specs.declared.chain.Link.{Link}
 use Rattle.and_tables.specs.declared.index.Index.{Index}
-use Rattle.and_tables.specs.Chains.{IsChain, IsSameChain, key_of, keyed, last_before}
+use Rattle.and_tables.specs.Chains.{IsChain, IsLastLink, IsSameChain, keyed, link_at, nowhere, orders_in}
 use Rattle.and_tables.specs.Indexes.{IsSameIndex}
 use Rattle.and_tables.specs.Kept.{AreChained}
-use Rattle.and_tables.specs.Lasts.{IsLast}
-use Rattle.and_tables.specs.Numbers.{at}
 use Rattle.and_tables.specs.Orders.{AreTouched, the_order}
 use Rattle.and_tables.specs.Steps.{own}
-use Rattle.and_tables.proofs.Applied.{last_by}
-use Rattle.and_tables.proofs.Lasts.{last_within}
-use Rattle.and_tables.proofs.Stepping.{none_last}
+use Rattle.and_tables.proofs.Lasts.{last_new, last_same, last_within}
 
-number_past : (xs : List ℕ) (i : ℕ) → length xs ≤ i → slice_index_or xs i 0 ≤ i
-number_past [] i h = omega arith
-number_past (x ∷ xs) zero h = absurd (omega (arith, h))
-number_past (x ∷ xs) (suc i) h = omega (arith, number_past xs i (omega (arith, h)))
+-- ---- lists with one more
+
+front : {A : Type 0} (p : List A) (x : A) (i : ℕ) → i < length p → slice_get (p ++ x ∷ []) i ≡ slice_get p i
+front [] x i h = absurd (omega (arith, h))
+front (y ∷ p) x zero h = refl
+front (y ∷ p) x (suc i) h = front p x i (omega (arith, h))
+
+seam : {A : Type 0} (p : List A) (x : A) → slice_get (p ++ x ∷ []) (length p) ≡ Some x
+seam [] x = refl
+seam (y ∷ p) x = seam p x
+
+index_front : {A : Type 0} (xs : List A) (x d : A) (i : ℕ) → i < length xs → slice_index_or (xs ++ x ∷ []) i d ≡ slice_index_or xs i d
+index_front [] x d i h = absurd (omega (arith, h))
+index_front (y ∷ xs) x d zero h = refl
+index_front (y ∷ xs) x d (suc i) h = index_front xs x d i (omega (arith, h))
+
+index_seam : {A : Type 0} (xs : List A) (x d : A) → slice_index_or (xs ++ x ∷ []) (length xs) d ≡ x
+index_seam [] x d = refl
+index_seam (y ∷ xs) x d = index_seam xs x d
+
+index_past : {A : Type 0} (xs : List A) (d : A) (i : ℕ) → length xs ≤ i → slice_index_or xs i d ≡ d
+index_past [] d i h = refl
+index_past (x ∷ xs) d zero h = absurd (omega (arith, h))
+index_past (x ∷ xs) d (suc i) h = index_past xs d i (omega (arith, h))
+
+choose : {A : Type 0} (m n : ℕ) → (m < n → A) → (n ≤ m → A) → A
+choose {A} m n f g = elim (cases_lt m n) as (λ _. A) [ inl h ↦ f h | inr h ↦ g h ]
+
+-- ---- how many orders
+
+pub orders_few : (p : List Op) → orders_in p ≤ length p
+orders_few [] = omega arith
+orders_few (ops.Entry e ∷ p) = omega (arith, orders_few p)
+orders_few (ops.Offload o ∷ p) = omega (arith, orders_few p)
+
+orders_more : (p : List Op) (o : Order) → orders_in (p ++ ops.Offload o ∷ []) ≡ suc (orders_in p)
+orders_more [] o = refl
+orders_more (ops.Entry e ∷ p) o = orders_more p o
+orders_more (ops.Offload x ∷ p) o = ap suc (orders_more p o)
+
+orders_same : (p : List Op) (e : Entry) → orders_in (p ++ ops.Entry e ∷ []) ≡ orders_in p
+orders_same [] e = refl
+orders_same (ops.Entry x ∷ p) e = orders_same p e
+orders_same (ops.Offload x ∷ p) e = ap suc (orders_same p e)
+
+orders_take : (p : List Op) (n : ℕ) → orders_in (take n p) ≤ orders_in p
+orders_take [] zero = omega arith
+orders_take [] (suc n) = omega arith
+orders_take (ops.Entry e ∷ p) zero = omega arith
+orders_take (ops.Entry e ∷ p) (suc n) = orders_take p n
+orders_take (ops.Offload o ∷ p) zero = omega arith
+orders_take (ops.Offload o ∷ p) (suc n) = omega (arith, orders_take p n)
+
+-- the number of the order at a place
+pub orders_at : (p : List Op) (place : ℕ) (o : Order) → slice_get p place ≡ Some (ops.Offload o) → orders_in (take (suc place) p) ≡ suc (orders_in (take place p))
+orders_at [] place o h = absurd (cc h)
+orders_at (ops.Entry e ∷ p) zero o h = absurd (cc h)
+orders_at (ops.Offload x ∷ p) zero o h = refl
+orders_at (ops.Entry e ∷ p) (suc place) o h = orders_at p place o h
+orders_at (ops.Offload x ∷ p) (suc place) o h = ap suc (orders_at p place o h)
 
 -- ---- at the start, and with the same look-ups
-
-pub chain_start : (by : Order → ℕ) (c : Chain) → ((q : ℕ) → at c.last q ≡ 0) → c.before.items ≡ [] → IsChain by [] c
-chain_start by c last before = record {
-  long = rw before refl;
-  linked = λ place. rw before (number_past [] place (omega arith));
-  lasts = λ q. none_last (keyed by q) (at c.last q) (last q);
-  befores = λ place order is. absurd (nothing place order is);
-}
-  where
-    nothing : (place : ℕ) (order : Order) → slice_get [] place ≡ Some (ops.Offload order) → ⊥
-    nothing zero order is = cc is
-    nothing (suc place) order is = cc is
 
 pub touched_start : (touch : ℕ → ℕ) → AreTouched [] touch
 touched_start touch zero order is = absurd (cc is)
@@ -49,8 +91,8 @@ touched_start touch (suc (suc place)) order is = absurd (cc is)
 pub chain_as : (by : Order → ℕ) (p : List Op) (x y : Chain) → IsSameChain x y → IsChain by p x → IsChain by p y
 chain_as by p x y same c = record {
   long = rw same.before c.long;
-  linked = λ place. rw same.before (c.linked place);
-  lasts = λ q. subst (IsLast (keyed by q) p) (sym (ap (λ o. unwrap_or o 0) (same.last q))) (c.lasts q);
+  linked = λ number. rw same.before (c.linked number);
+  lasts = λ q. subst (IsLastLink (keyed by q) p) (sym (ap (λ o. unwrap_or o nowhere) (same.last q))) (c.lasts q);
   befores = λ place order is. rw same.before (c.befores place order is);
 }
 
@@ -63,86 +105,117 @@ chained_as p x y same c = record {
 
 -- ---- one operation more
 
-choose : {A : Type 0} (m n : ℕ) → (m < n → A) → (n ≤ m → A) → A
-choose {A} m n f g = elim (cases_lt m n) as (λ _. A) [ inl h ↦ f h | inr h ↦ g h ]
+module _ (by : Order → ℕ) (p : List Op) (op : Op) (c : Chain) (is : IsChain by p c) where
+  -- a key that the operation has not
+  link_same : (q : ℕ) → keyed by q op ≡ false → IsLastLink (keyed by q) (p ++ op ∷ []) (link_at c.last q)
+  link_same q other =
+      let within : (link_at c.last q).place ≤ length p = last_within (keyed by q) p (link_at c.last q).place (is.lasts q).place in
+      record {
+        place = last_same (keyed by q) p (link_at c.last q).place op (is.lasts q).place other;
+        number = rw (take-append-le (link_at c.last q).place p (op ∷ []) within) (is.lasts q).number;
+      }
 
-front : (p : List Op) (op : Op) (i : ℕ) → i < length p → slice_get (p ++ op ∷ []) i ≡ slice_get p i
-front [] op i h = absurd (omega (arith, h))
-front (x ∷ p) op zero h = refl
-front (x ∷ p) op (suc i) h = front p op i (omega (arith, h))
+  -- an earlier order
+  link_before : (items : List Link) (place : ℕ) (order : Order) → slice_get (p ++ op ∷ []) place ≡ Some (ops.Offload order) → place < length p
+      → ((i : ℕ) → i < orders_in p → slice_index_or items i nowhere ≡ slice_index_or c.before.items i nowhere)
+      → IsLastLink (keyed by (by order)) (take place (p ++ op ∷ [])) (slice_index_or items (orders_in (take place (p ++ op ∷ []))) nowhere)
+  link_before items place order found h same =
+      let at : slice_get p place ≡ Some (ops.Offload order) = sym (front p op place h) ∙ found in
+      let few : orders_in (take place p) < orders_in p = omega (arith, orders_at p place order at, orders_take p (suc place)) in
+      rw (take-append-le place p (op ∷ []) (omega (arith, h)), same (orders_in (take place p)) few) (is.befores place order at)
 
-seam : {A : Type 0} (p : List A) (x : A) → slice_get (p ++ x ∷ []) (length p) ≡ Some x
-seam [] x = refl
-seam (y ∷ p) x = seam p x
+  within : (place : ℕ) (order : Order) → slice_get (p ++ op ∷ []) place ≡ Some (ops.Offload order) → length p ≤ place → place ≡ length p
+  within place order found h =
+      let short : place < length (p ++ op ∷ []) = slice_get_within (p ++ op ∷ []) place (ops.Offload order) found in
+      omega (arith, short, h, length-append p (op ∷ []))
 
-number_front : (xs : List ℕ) (x i : ℕ) → i < length xs → slice_index_or (xs ++ x ∷ []) i 0 ≡ slice_index_or xs i 0
-number_front [] x i h = absurd (omega (arith, h))
-number_front (y ∷ xs) x zero h = refl
-number_front (y ∷ xs) x (suc i) h = number_front xs x i (omega (arith, h))
-
-number_seam : (xs : List ℕ) (x : ℕ) → slice_index_or (xs ++ x ∷ []) (length xs) 0 ≡ x
-number_seam [] x = refl
-number_seam (y ∷ xs) x = number_seam xs x
-
-keyed_is : (by : Order → ℕ) (op : Op) (q : ℕ) → is_net (key_of by op) q ≡ keyed by q op
-keyed_is by (ops.Entry e) q = refl
-keyed_is by (ops.Offload o) q = refl
-
-offload_is : (x : Op) (y : Order) → Some x ≡ Some (ops.Offload y) → x ≡ ops.Offload y
-offload_is x y h = cc h
-
-module _ (by : Order → ℕ) (p : List Op) (op : Op) (here : ℕ) (c d : Chain) (is : IsChain by p c) (here_is : here ≡ length p + 1)
-    (last : (q : ℕ) → at d.last q ≡ (if is_net (key_of by op) q then here else at c.last q)) (before : d.before.items ≡ c.before.items ++ last_before (at c.last) (key_of by op) ∷ []) where
-  befores_more : (place : ℕ) (order : Order) → slice_get (p ++ op ∷ []) place ≡ Some (ops.Offload order) → IsLast (keyed by (by order)) (take place (p ++ op ∷ [])) (slice_index_or d.before.items place 0)
-  befores_more place order found = choose place (length p) older newest
+  newest : (place : ℕ) (order : Order) → slice_get (p ++ op ∷ []) place ≡ Some (ops.Offload order) → place ≡ length p → op ≡ ops.Offload order
+  newest place order found at_end = offload_is op (sym (seam p op) ∙ ap (slice_get (p ++ op ∷ [])) (sym at_end) ∙ found)
     where
-      within : place < length p + 1
-      within = subst (λ n. place < n) (length-append p (op ∷ [])) (slice_get_within (p ++ op ∷ []) place (ops.Offload order) found)
+      offload_is : (x : Op) → Some x ≡ Some (ops.Offload order) → x ≡ ops.Offload order
+      offload_is x h = cc h
 
-      older : place < length p → IsLast (keyed by (by order)) (take place (p ++ op ∷ [])) (slice_index_or d.before.items place 0)
-      older h =
-          rw (before, take-append-le place p (op ∷ []) (omega (arith, h)), number_front c.before.items (last_before (at c.last) (key_of by op)) place (subst (λ n. place < n) (sym is.long) h))
-          (is.befores place order (sym (front p op place h) ∙ found))
+-- an entry
+pub chain_entry : (by : Order → ℕ) (p : List Op) (e : Entry) (c : Chain) → IsChain by p c → IsChain by (p ++ ops.Entry e ∷ []) c
+chain_entry by p e c is = record {
+  long = is.long ∙ sym (orders_same p e);
+  linked = is.linked;
+  lasts = λ q. link_same by p (ops.Entry e) c is q refl;
+  befores = λ place order found.
+      choose place (length p) (λ h. link_before by p (ops.Entry e) c is c.before.items place order found h (λ i l. refl))
+      (λ h. absurd (none order (newest by p (ops.Entry e) c is place order found (within by p (ops.Entry e) c is place order found h))));
+}
+  where
+    none : (order : Order) → ops.Entry e ≡ ops.Offload order → ⊥
+    none order h = cc h
 
-      newest : length p ≤ place → IsLast (keyed by (by order)) (take place (p ++ op ∷ [])) (slice_index_or d.before.items place 0)
-      newest h =
-          let at_end : place ≡ length p = omega (arith, h, within) in
-          let its : op ≡ ops.Offload order = offload_is op order (sym (seam p op) ∙ ap (slice_get (p ++ op ∷ [])) (sym at_end) ∙ found) in
-          let long : place ≡ length c.before.items = at_end ∙ sym is.long in
-          let number : slice_index_or d.before.items place 0 ≡ at c.last (by order) =
-          ap (λ xs. slice_index_or xs place 0) before ∙ ap (λ n. slice_index_or (c.before.items ++ last_before (at c.last) (key_of by op) ∷ []) n 0) long
-          ∙ number_seam c.before.items (last_before (at c.last) (key_of by op)) ∙ ap (λ x. last_before (at c.last) (key_of by x)) its in
-          let whole : take place (p ++ op ∷ []) ≡ p = ap (λ n. take n (p ++ op ∷ [])) at_end ∙ take-append-le (length p) p (op ∷ []) (omega arith) ∙ take-length p in
-          rw (number, whole) (is.lasts (by order))
+-- an order
+module _ (by : Order → ℕ) (p : List Op) (o : Order) (here : ℕ) (c d : Chain) (is : IsChain by p c) (here_is : here ≡ length p + 1)
+    (last : (q : ℕ) → link_at d.last q ≡ (if by o == q then record { place = here; number = length c.before.items + 1 } else link_at c.last q))
+    (before : d.before.items ≡ c.before.items ++ link_at c.last (by o) ∷ []) where
+  abbrev items : List Link
+  items = c.before.items
 
-  linked_more : (place : ℕ) → slice_index_or d.before.items place 0 ≤ place
-  linked_more place = rw before (choose place (length c.before.items) older newest)
+  abbrev new : Link
+  new = link_at c.last (by o)
+
+  lasts_more : (q : ℕ) → IsLastLink (keyed by q) (p ++ ops.Offload o ∷ []) (link_at d.last q)
+  lasts_more q =
+      elim (cases_Bool (by o == q)) as (λ _. IsLastLink (keyed by q) (p ++ ops.Offload o ∷ []) (link_at d.last q)) [
+        | inl t ↦ subst (IsLastLink (keyed by q) (p ++ ops.Offload o ∷ [])) (sym (last q ∙ rw t refl)) (mine t)
+        | inr t ↦ subst (IsLastLink (keyed by q) (p ++ ops.Offload o ∷ [])) (sym (last q ∙ rw t refl)) (link_same by p (ops.Offload o) c is q t)
+      ]
     where
-      items : List ℕ
-      items = c.before.items
+      whole : take here (p ++ ops.Offload o ∷ []) ≡ p ++ ops.Offload o ∷ []
+      whole = ap (λ n. take n (p ++ ops.Offload o ∷ [])) (here_is ∙ sym (length-append p (ops.Offload o ∷ []))) ∙ take-length (p ++ ops.Offload o ∷ [])
 
-      new : ℕ
-      new = last_before (at c.last) (key_of by op)
+      mine : (by o == q) ≡ true → IsLastLink (keyed by q) (p ++ ops.Offload o ∷ []) (record { place = here; number = length items + 1 })
+      mine t = record {
+        place = rw here_is (last_new (keyed by q) p (link_at c.last q).place (ops.Offload o) (is.lasts q).place t);
+        number = rw (whole, orders_more p o, is.long) (omega arith);
+      }
 
-      small : (k : Option ℕ) → last_before (at c.last) k ≤ length p
-      small None = omega arith
-      small (Some q) = last_within (keyed by q) p (at c.last q) (is.lasts q)
+  linked_more : (number : ℕ) → (slice_index_or d.before.items number nowhere).number ≤ number
+  linked_more number = rw before (choose number (length items) older newest_one)
+    where
+      small : new.number ≤ length items
+      small = omega (arith, (is.lasts (by o)).number, orders_take p new.place, is.long)
 
-      older : place < length items → slice_index_or (items ++ new ∷ []) place 0 ≤ place
-      older h = rw (number_front items new place h) (is.linked place)
+      older : number < length items → (slice_index_or (items ++ new ∷ []) number nowhere).number ≤ number
+      older h = rw (index_front items new nowhere number h) (is.linked number)
 
-      at_seam : place ≡ length items → slice_index_or (items ++ new ∷ []) place 0 ≤ place
-      at_seam e = rw (e, number_seam items new, is.long) (small (key_of by op))
+      at_seam : number ≡ length items → (slice_index_or (items ++ new ∷ []) number nowhere).number ≤ number
+      at_seam e = rw (e, index_seam items new nowhere) small
 
-      newest : length items ≤ place → slice_index_or (items ++ new ∷ []) place 0 ≤ place
-      newest h = choose (length items) place (λ l. number_past (items ++ new ∷ []) place (rw (length-append items (new ∷ [])) (omega (arith, l))))
+      newest_one : length items ≤ number → (slice_index_or (items ++ new ∷ []) number nowhere).number ≤ number
+      newest_one h = choose (length items) number (λ l. rw (index_past (items ++ new ∷ []) nowhere number (rw (length-append items (new ∷ [])) (omega (arith, l)))) (omega arith))
           (λ l. at_seam (omega (arith, h, l)))
 
-  pub chain_more : IsChain by (p ++ op ∷ []) d
-  chain_more = record {
-    long = rw (before, length-append c.before.items (last_before (at c.last) (key_of by op) ∷ []), length-append p (op ∷ []), is.long) refl;
+  befores_more : (place : ℕ) (order : Order) → slice_get (p ++ ops.Offload o ∷ []) place ≡ Some (ops.Offload order)
+      → IsLastLink (keyed by (by order)) (take place (p ++ ops.Offload o ∷ [])) (slice_index_or d.before.items (orders_in (take place (p ++ ops.Offload o ∷ []))) nowhere)
+  befores_more place order found = choose place (length p) older (λ h. at_seam (within by p (ops.Offload o) c is place order found h))
+    where
+      older : place < length p → IsLastLink (keyed by (by order)) (take place (p ++ ops.Offload o ∷ [])) (slice_index_or d.before.items (orders_in (take place (p ++ ops.Offload o ∷ []))) nowhere)
+      older h = link_before by p (ops.Offload o) c is d.before.items place order found h
+          (λ i l. ap (λ xs. slice_index_or xs i nowhere) before ∙ index_front items new nowhere i (rw is.long l))
+
+      at_seam : place ≡ length p → IsLastLink (keyed by (by order)) (take place (p ++ ops.Offload o ∷ [])) (slice_index_or d.before.items (orders_in (take place (p ++ ops.Offload o ∷ []))) nowhere)
+      at_seam e =
+          let its : ops.Offload o ≡ ops.Offload order = newest by p (ops.Offload o) c is place order found e in
+          let same : by o ≡ by order = ap by (order_is its) in
+          let whole : take place (p ++ ops.Offload o ∷ []) ≡ p = ap (λ n. take n (p ++ ops.Offload o ∷ [])) e ∙ take-append-le (length p) p (ops.Offload o ∷ []) (omega arith) ∙ take-length p in
+          let link : slice_index_or d.before.items (orders_in p) nowhere ≡ new =
+          ap (λ xs. slice_index_or xs (orders_in p) nowhere) before ∙ ap (λ n. slice_index_or (items ++ new ∷ []) n nowhere) (sym is.long) ∙ index_seam items new nowhere in
+          rw (whole, link, ← same) (is.lasts (by o))
+        where
+          order_is : ops.Offload o ≡ ops.Offload order → o ≡ order
+          order_is h = cc h
+
+  pub chain_order : IsChain by (p ++ ops.Offload o ∷ []) d
+  chain_order = record {
+    long = rw (before, length-append items (new ∷ []), is.long, orders_more p o) (omega arith);
     linked = linked_more;
-    lasts = λ q. last_by (keyed by q) p (at c.last q) (at d.last q) op (is.lasts q) (last q ∙ rw (keyed_is by op q, here_is) refl);
+    lasts = lasts_more;
     befores = befores_more;
   }
 

@@ -19,7 +19,7 @@ use Rattle.and_policy.proofs.Logging.{log-before}
 use Rattle.and_tables.proofs.Alive.{touches_same}
 use Rattle.and_tables.proofs.Applied.{keeps_more}
 
-pub none_last : (test : Op → Bool) (place : ℕ) → place ≡ 0 → IsLast test [] place
+none_last : (test : Op → Bool) (place : ℕ) → place ≡ 0 → IsLast test [] place
 none_last test place h = record { later = λ q. empty q ∙ sym (le-ltb q place (omega arith)) }
   where
     empty : (q : ℕ) → list_any test (drop q []) ≡ false

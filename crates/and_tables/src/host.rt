@@ -174,7 +174,7 @@ impl Tables for HostTables {
     fn apply(&mut self, alloc: Global, op: Op) -> Result<(), NoMemory> {
         self.ops.reserve(1).map_err(|_| NoMemory)?;
         self.register.room()?;
-        self.index.room()?;
+        self.index.room(&op)?;
         note_rules(alloc, &mut self.rules, &op)?;
         let here = self.ops.len() as u32 + 1;
         let ticks = self.ticks + ticks_of(&op);

@@ -1,17 +1,18 @@
 //! What is looked up.
-ghost use Rattle.std.specs.Prelude.{◌≡◌, ◌<◌, ◌+◌, ◌==◌, ◌&&◌, ◌++◌, ◌∷◌, [], ℕ, length, if◌then◌else◌, OnOk};
+ghost use Rattle.std.specs.Prelude.{◌≡◌, ◌<◌, ◌+◌, ◌==◌, ◌&&◌, ◌++◌, ◌∷◌, [], ℕ, List, length, if◌then◌else◌, OnOk};
 ghost use Rattle.and_policy.specs.declared.entry.Order.{Order};
 ghost use Rattle.and_policy.specs.Programmes as programmes;
+ghost use Rattle.and_tables.specs.Chains.{IsChain};
 ghost use Rattle.and_tables.specs.Kept.{AreChained};
-ghost use Rattle.and_tables.specs.Indexes.{IsSameIndex, HasRoom};
+ghost use Rattle.and_tables.specs.Indexes.{IsSameIndex, HasLinks, HasOwnLinks, HasRoom};
 ghost use Rattle.and_tables.specs.Numbers.{at, at_pair};
 ghost use Rattle.and_tables.specs.Orders.{any_alive, hits};
 ghost use Rattle.and_tables.specs.Steps as step;
 
 use crate::chain::Chain;
-use crate::maps::last;
+use crate::maps::{last, put_of};
 use crate::orders::touch_ended;
-use crate::steps::{enter, into_of, order, own, until_of};
+use crate::steps::{enter, own};
 use and_policy::{Entry, NoMemory, Op};
 use std::alloc::Global;
 use std::collections::HashMap;
@@ -48,17 +49,29 @@ impl Index {
         }
     }
 
-    /// Makes room for one operation more.
-    pub(crate) fn room(&mut self) -> Result<(), NoMemory>
+    // Makes room for one order more.
+    fn room_for_order(&mut self) -> Result<(), NoMemory>
+        ensures entered { self.new.entered ≡ self.old.entered }
+        ensures touched { self.new.touched ≡ self.old.touched }
         ensures same { IsSameIndex self.old self.new }
-        ensures ok { OnOk result (HasRoom self.new) }
+        ensures ok { OnOk result (HasLinks self.new) }
+    {
+        self.ordered.reserve(1).map_err(|_| NoMemory)?;
+        self.into.room()?;
+        self.until.room()
+    }
+
+    /// Makes room for the operation.
+    pub(crate) fn room(&mut self, op: &Op) -> Result<(), NoMemory>
+        ensures same { IsSameIndex self.old self.new }
+        ensures ok { OnOk result (HasRoom op.now self.new) }
     {
         self.entered.reserve(1).map_err(|_| NoMemory)?;
-        self.ordered.reserve(1).map_err(|_| NoMemory)?;
         self.touched.reserve(1).map_err(|_| NoMemory)?;
-        self.into.room()?;
-        self.until.room()?;
-        Ok(())
+        match op {
+            Op::Entry(_) => Ok(()),
+            Op::Offload(_) => self.room_for_order(),
+        }
     }
 
     // Writes the place `here` at the source network of each live order into the network.
@@ -72,20 +85,25 @@ impl Index {
         ensures touched { (net : ℕ) → at self.new.touched net
             ≡ (if any_alive ops.now ticks (at self.old.entered) (at_pair self.old.ordered) (λ o. programmes.is_net name o.to_net && (o.net == net)) then here else at self.old.touched net) }
     {
-        if let Some(net) = name {
-            let floor = last(&self.entered, net);
-            touch_ended(
-                ops,
-                ticks,
-                &self.entered,
-                &self.ordered,
-                &self.into,
-                net,
-                floor,
-                here,
-                &mut self.touched,
-            );
+        let Some(net) = name else {
+            return;
+        };
+        let first = self.into.last(net);
+        if first.number == 0 {
+            return;
         }
+        let floor = last(&self.entered, net);
+        touch_ended(
+            ops,
+            ticks,
+            &self.entered,
+            &self.ordered,
+            &self.into,
+            first,
+            floor,
+            here,
+            &mut self.touched,
+        );
     }
 
     // Writes the place `here` at the source network of each live order that is over at `now` ticks.
@@ -105,7 +123,7 @@ impl Index {
             &self.entered,
             &self.ordered,
             &self.until,
-            now,
+            self.until.last(now),
             0,
             here,
             &mut self.touched,
@@ -132,6 +150,27 @@ impl Index {
         }
     }
 
+    // Where the operation stands, if it is an order.
+    fn link(&mut self, op: &Op, here: u32)
+        requires room { HasOwnLinks op.now self.old }
+        requires into { length self.old.into.before.items < here }
+        requires until { length self.old.until.before.items < here }
+        ensures entered { self.new.entered ≡ self.old.entered }
+        ensures touched { self.new.touched ≡ self.old.touched }
+        ensures ordered { (net ip : ℕ) → at_pair self.new.ordered net ip ≡ (if programmes.orders_for net ip op.now then here else at_pair self.old.ordered net ip) }
+        ensures into { (p : List Op) → here ≡ length p + 1 → IsChain (λ (o : Order). o.to_net) p self.old.into → IsChain (λ (o : Order). o.to_net) (p ++ op.now ∷ []) self.new.into }
+        ensures until { (p : List Op) → here ≡ length p + 1 → IsChain (λ (o : Order). o.until) p self.old.until → IsChain (λ (o : Order). o.until) (p ++ op.now ∷ []) self.new.until }
+    {
+        match op {
+            Op::Entry(_) => {}
+            Op::Offload(order) => {
+                put_of(&mut self.ordered, order.net, order.ip, here);
+                self.into.push(order.to_net, here);
+                self.until.push(order.until, here);
+            }
+        }
+    }
+
     /// One operation more, which stands at the place `here` after the others and names this network. There were so many ticks before it, and are
     /// `now`.
     pub(crate) fn apply(
@@ -143,7 +182,7 @@ impl Index {
         now: u32,
         here: u32,
     )
-        requires room { HasRoom self.old }
+        requires room { HasRoom op.now self.old }
         requires chained { AreChained ops.now self.old }
         requires here { here ≡ length ops.now + 1 }
         ensures entered { (net : ℕ) → at self.new.entered net ≡ (if programmes.is_net name net then here else at self.old.entered net) }
@@ -156,8 +195,6 @@ impl Index {
         enter(&mut self.touched, own(name, op), here);
         self.touch(ops, name, op, ticks, now, here);
         enter(&mut self.entered, name, here);
-        order(&mut self.ordered, op, here);
-        self.into.push(into_of(op), here);
-        self.until.push(until_of(op), here);
+        self.link(op, here);
     }
 }

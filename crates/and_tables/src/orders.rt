@@ -1,12 +1,12 @@
 //! The orders among the operations, by their places, which count from 1.
 ghost use Rattle.std.specs.Prelude.{◌≡◌, ◌<◌, ◌&&◌, ◌==◌, ℕ, if◌then◌else◌};
 ghost use Rattle.and_policy.specs.declared.entry.Order.{Order};
-ghost use Rattle.and_tables.specs.Chains.{IsChain, IsLinked};
+ghost use Rattle.and_tables.specs.Chains.{IsChain, IsLinked, link_at};
 ghost use Rattle.and_tables.specs.Numbers.{at, at_pair};
 ghost use Rattle.and_tables.specs.Orders as orders;
 ghost use Rattle.and_tables.specs.Orders.{AreTouched, IsNoneBelow};
 
-use crate::chain::Chain;
+use crate::chain::{Chain, Link};
 use crate::maps::{change, last, last_of};
 use and_policy::{Op, Order};
 use std::collections::HashMap;
@@ -64,14 +64,14 @@ fn alive_at(
     }
 }
 
-/// Writes the place `here` at the source network of each live order with this key, but for those before `floor`, where none lives.
+/// Writes the place `here` at the source network of each live order of the chain that ends with `last`, but for those before `floor`, where none lives.
 pub(crate) fn touch_ended(
     ops: &[Op],
     ticks: u32,
     entered: &HashMap<u32, u32>,
     ordered: &HashMap<(u32, u32), u32>,
     chain: &Chain,
-    key: u32,
+    last: Link,
     floor: u32,
     here: u32,
     touched: &mut HashMap<u32, u32>,
@@ -79,14 +79,14 @@ pub(crate) fn touch_ended(
     requires linked { IsLinked chain.now }
     requires touched { AreTouched ops.now (at touched.old) }
     requires here { 0 < here }
-    ensures { (by : Order → ℕ) → IsChain by ops.now chain.now → IsNoneBelow by ops.now ticks (at entered.now) (at_pair ordered.now) key floor → (net : ℕ)
+    ensures { (by : Order → ℕ) (key : ℕ) → last ≡ link_at chain.now.last key → IsChain by ops.now chain.now → IsNoneBelow by ops.now ticks (at entered.now) (at_pair ordered.now) key floor → (net : ℕ)
         → at touched.new net ≡ (if orders.any_alive ops.now ticks (at entered.now) (at_pair ordered.now) (λ o. (by o == key) && (o.net == net)) then here else at touched.old net) }
 {
-    let mut place = chain.last(key);
-    while place > 0 && place >= floor {
-        if let Some(order) = alive_at(ops, ticks, entered, ordered, place) {
+    let mut link = last;
+    while link.number > 0 && link.place >= floor {
+        if let Some(order) = alive_at(ops, ticks, entered, ordered, link.place) {
             change(touched, order.net, here);
         }
-        place = chain.before(place);
+        link = chain.before(link);
     }
 }

@@ -2,14 +2,12 @@
 ghost use Rattle.std.specs.Prelude.{◌≡◌, ◌<◌, ℕ, List, if◌then◌else◌};
 ghost use Rattle.std.specs.HashMap as hash;
 ghost use Rattle.and_policy.specs.declared.entry.Entry.{Entry};
-ghost use Rattle.and_policy.specs.declared.entry.Order.{Order};
 ghost use Rattle.and_policy.specs.Programmes as programmes;
 ghost use Rattle.and_policy.specs.Registers.{IsRegister};
-ghost use Rattle.and_tables.specs.Chains.{key_of};
-ghost use Rattle.and_tables.specs.Numbers.{at, at_pair};
+ghost use Rattle.and_tables.specs.Numbers.{at};
 ghost use Rattle.and_tables.specs.Steps as step;
 
-use crate::maps::{put, put_of};
+use crate::maps::put;
 use and_policy::{Entry, Op, Register};
 use std::collections::HashMap;
 
@@ -59,36 +57,5 @@ pub(crate) fn own(name: Option<u32>, op: &Op) -> Option<u32>
     match op {
         Op::Offload(order) => Some(order.net),
         Op::Entry(_) => name,
-    }
-}
-
-/// Writes the place at the network and the address of an order.
-pub(crate) fn order(ordered: &mut HashMap<(u32, u32), u32>, op: &Op, here: u32)
-    requires { 0 < hash.spare ordered.old }
-    ensures { (net ip : ℕ) → at_pair ordered.new net ip ≡ (if programmes.orders_for net ip op.now then here else at_pair ordered.old net ip) }
-{
-    match op {
-        Op::Offload(order) => put_of(ordered, order.net, order.ip, here),
-        Op::Entry(_) => {}
-    }
-}
-
-/// The network into which the operation is an order.
-pub(crate) fn into_of(op: &Op) -> Option<u32>
-    ensures { result ≡ key_of (λ (o : Order). o.to_net) op.now }
-{
-    match op {
-        Op::Offload(order) => Some(order.to_net),
-        Op::Entry(_) => None,
-    }
-}
-
-/// The number of ticks at which the operation, an order, is over.
-pub(crate) fn until_of(op: &Op) -> Option<u32>
-    ensures { result ≡ key_of (λ (o : Order). o.until) op.now }
-{
-    match op {
-        Op::Offload(order) => Some(order.until),
-        Op::Entry(_) => None,
     }
 }

@@ -1,9 +1,8 @@
 -- How the rules of networks follow one entry more.
-use Rattle.std.proofs.Common.{◌≡◌, ℕ, ◌<◌, ◌≤◌, ◌⊎◌, Bool, true, false, ◌&&◌, ◌||◌, not, List, [], ◌∷◌, ◌++◌, Option, Some, None, nat_eq, cond, unwrap_or, refl, ap, sym, ◌∙◌, subst, append-nil, arith, inl, inr}
+use Rattle.std.proofs.Common.{◌≡◌, ℕ, ◌<◌, ◌≤◌, ◌⊎◌, Bool, true, false, ◌&&◌, ◌||◌, not, List, [], ◌∷◌, ◌++◌, Option, Some, None, nat_eq, cond, refl, ap, sym, ◌∙◌, subst, append-nil, arith, inl, inr}
 use Rattle.std.specs.Prelude.{if◌then◌else◌, ◌==◌, nat_lt}
 use Rattle.std.specs.List.{list_any, filter, find}
 use Rattle.std.proofs.lemmas.Bool.{eqb-true, eq-eqb, ne_eqb, lt-ltb, le-ltb, cases_order, false≢true}
-use Rattle.std.specs.HashMap as hash
 use Rattle.std.specs.HashMap.{HashMap}
 use Rattle.std.specs.declared.hash.FoldHasher.{FoldHasher}
 use Rattle.std.specs.declared.hash.BuildHasherDefault.{BuildHasherDefault}
@@ -112,23 +111,6 @@ passed false f rest h = (refl, h)
 
 fresh : (k : List Entry) (net : ℕ) (rule : Rule) → fits None k (AddRule net rule) ≡ None → has_rule k net rule.number ≡ false
 fresh k net rule fit = (passed _ _ _ (passed _ _ _ fit).1).0
-
--- ---- maps
-
-pub restored : (m n : Book) (net : ℕ) (xs : List Rule) → ((q : ℕ) → rules_at n q ≡ cond (nat_eq net q) xs (rules_at m q)) → xs ≡ rules_at m net → (q : ℕ) → rules_at n q ≡ rules_at m q
-restored m n net xs put is q = by_key (nat_eq net q) refl (put q)
-  where
-    by_key : (h : Bool) → nat_eq net q ≡ h → rules_at n q ≡ cond h xs (rules_at m q) → rules_at n q ≡ rules_at m q
-    by_key true e f = f ∙ is ∙ ap (rules_at m) (eqb-true net q e)
-    by_key false e f = f
-
-chosen : (h : Bool) (xs : List Rule) (mid old : Option (List Rule)) → mid ≡ cond h None old → unwrap_or (cond h (Some xs) mid) [] ≡ cond h xs (unwrap_or old [])
-chosen true xs mid old e = refl
-chosen false xs mid old e = rw e refl
-
-pub rewritten : (m mid n : Book) (net : ℕ) (xs : List Rule) → ((q : ℕ) → hash.get nat_eq mid q ≡ cond (nat_eq net q) None (hash.get nat_eq m q))
-    → ((q : ℕ) → hash.get nat_eq n q ≡ cond (nat_eq net q) (Some xs) (hash.get nat_eq mid q)) → (q : ℕ) → rules_at n q ≡ cond (nat_eq net q) xs (rules_at m q)
-rewritten m mid n net xs out put q = ap (λ o. unwrap_or o []) (put q) ∙ chosen (nat_eq net q) xs (hash.get nat_eq mid q) (hash.get nat_eq m q) (out q)
 
 -- ---- a rule more, a rule less
 

@@ -32,6 +32,23 @@ fn put_rules(nets: &mut HashMap<u32, Rules>, net: u32, rules: Rules)
     let _ = put.unwrap();
 }
 
+// Adds the first rule of the network. After want of memory each network has the rules of before.
+fn add_first(
+    alloc: Global,
+    nets: &mut HashMap<u32, Rules>,
+    net: u32,
+    rule: Rule,
+) -> Result<(), NoMemory>
+    ensures ok { OnOk result ((q : ℕ) → rules_at nets.new q ≡ cond (nat_eq net q) (place rule_before rule []) (rules_at nets.old q)) }
+    ensures err { OnErr result ((q : ℕ) → rules_at nets.new q ≡ rules_at nets.old q) }
+{
+    nets.reserve(1).map_err(|_| NoMemory)?;
+    let mut rules = Rules::new(alloc);
+    rules.add(rule)?;
+    put_rules(nets, net, rules);
+    Ok(())
+}
+
 // Adds the rule. After want of memory each network has the rules of before.
 fn add_at(
     alloc: Global,
@@ -42,28 +59,19 @@ fn add_at(
     ensures ok { OnOk result ((q : ℕ) → rules_at nets.new q ≡ cond (nat_eq net q) (place rule_before rule (rules_at nets.old net)) (rules_at nets.old q)) }
     ensures err { OnErr result ((q : ℕ) → rules_at nets.new q ≡ rules_at nets.old q) }
 {
-    nets.reserve(1).map_err(|_| NoMemory)?;
-    let mut rules = nets.remove(&net).unwrap_or(Rules::new(alloc));
-    let added = rules.add(rule);
-    put_rules(nets, net, rules);
-    added
+    match nets.get_mut(&net) {
+        Some(rules) => rules.add(rule),
+        None => add_first(alloc, nets, net, rule),
+    }
 }
 
-// Takes the rule of this number away. After want of memory each network has the rules of before.
-fn delete_at(
-    alloc: Global,
-    nets: &mut HashMap<u32, Rules>,
-    net: u32,
-    number: u32,
-) -> Result<(), NoMemory>
-    ensures ok { OnOk result ((q : ℕ) → rules_at nets.new q ≡ cond (nat_eq net q) (filter (λ r. not (r.number == number)) (rules_at nets.old net)) (rules_at nets.old q)) }
-    ensures err { OnErr result ((q : ℕ) → rules_at nets.new q ≡ rules_at nets.old q) }
+// Takes the rule of this number away.
+fn delete_at(nets: &mut HashMap<u32, Rules>, net: u32, number: u32)
+    ensures { (q : ℕ) → rules_at nets.new q ≡ cond (nat_eq net q) (filter (λ r. not (r.number == number)) (rules_at nets.old net)) (rules_at nets.old q) }
 {
-    nets.reserve(1).map_err(|_| NoMemory)?;
-    let mut rules = nets.remove(&net).unwrap_or(Rules::new(alloc));
-    rules.delete(number);
-    put_rules(nets, net, rules);
-    Ok(())
+    if let Some(rules) = nets.get_mut(&net) {
+        rules.delete(number);
+    }
 }
 
 impl Rulebook {
@@ -85,11 +93,10 @@ impl Rulebook {
     }
 
     // Takes a rule away.
-    fn delete(&mut self, alloc: Global, net: u32, number: u32) -> Result<(), NoMemory>
-        ensures ok { OnOk result ((k : List Entry) → fits None k (DelRule net number) ≡ None → IsRulebook self.old k → IsRulebook self.new (k ++ DelRule net number ∷ [])) }
-        ensures err { OnErr result ((k : List Entry) → IsRulebook self.old k → IsRulebook self.new k) }
+    fn delete(&mut self, net: u32, number: u32)
+        ensures { (k : List Entry) → fits None k (DelRule net number) ≡ None → IsRulebook self.old k → IsRulebook self.new (k ++ DelRule net number ∷ []) }
     {
-        delete_at(alloc, &mut self.nets, net, number)
+        delete_at(&mut self.nets, net, number);
     }
 
     /// One entry more.
@@ -103,7 +110,10 @@ impl Rulebook {
     {
         match *entry {
             Entry::AddRule { net, rule } => self.add(alloc, net, rule),
-            Entry::DelRule { net, number } => self.delete(alloc, net, number),
+            Entry::DelRule { net, number } => {
+                self.delete(net, number);
+                Ok(())
+            }
             _ => Ok(()),
         }
     }

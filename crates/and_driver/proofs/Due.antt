@@ -37,15 +37,15 @@ can_hold plan s (step, told, can) node what due =
     let both : Some step ≡ Some (steps.Hold node what) = sym told ∙ due in
     let same : step ≡ steps.Hold node what = cc in subst (CanStep plan s) same can
 
--- a step of a built plan is of one of six kinds
+-- a step of a built plan is of one of seven kinds
 pub no_other : (step : Step) → IsBuiltStep step → ((e : Entry) → step ≡ steps.Append e → ⊥) → ((i : ℕ) → step ≡ steps.Inject i → ⊥)
-    → ((node : Node) (what : What) → step ≡ steps.Hold node what → ⊥) → ((node : Node) (what : What) → step ≡ steps.Free node what → ⊥) → (step ≡ steps.Wait → ⊥) → (step ≡ steps.Finish → ⊥) → ⊥
-no_other (steps.Append e) built a i h r w f = a e refl
-no_other (steps.Inject n) built a i h r w f = i n refl
-no_other (steps.Hold node what) built a i h r w f = h node what refl
-no_other (steps.Free node what) built a i h r w f = r node what refl
-no_other steps.Wait built a i h r w f = w refl
-no_other steps.Finish built a i h r w f = f refl
-no_other steps.Review built a i h r w f = built
-no_other (steps.Blackout vm host) built a i h r w f = built
-no_other (steps.Resume vm) built a i h r w f = built
+    → ((node : Node) (what : What) → step ≡ steps.Hold node what → ⊥) → ((node : Node) (what : What) → step ≡ steps.Free node what → ⊥) → (step ≡ steps.Wait → ⊥) → (step ≡ steps.Finish → ⊥) → (step ≡ steps.Review → ⊥) → ⊥
+no_other (steps.Append e) built a i h r w f v = a e refl
+no_other (steps.Inject n) built a i h r w f v = i n refl
+no_other (steps.Hold node what) built a i h r w f v = h node what refl
+no_other (steps.Free node what) built a i h r w f v = r node what refl
+no_other steps.Wait built a i h r w f v = w refl
+no_other steps.Finish built a i h r w f v = f refl
+no_other steps.Review built a i h r w f v = v refl
+no_other (steps.Blackout vm host) built a i h r w f v = built
+no_other (steps.Resume vm) built a i h r w f v = built

@@ -55,6 +55,11 @@ fn drive(alloc: Global, book: &mut Book, seat: u32) -> Result<(), NoMemory>
             book.append(seat);
             Ok(())
         }
+        Step::Review => {
+            book.prepare(alloc)?;
+            book.review(seat);
+            Ok(())
+        }
         Step::Inject { packet } => {
             let parcel = parcel_of(alloc, &book.plan().packets, packet)?;
             book.inject(seat, parcel);
@@ -84,7 +89,7 @@ fn drive(alloc: Global, book: &mut Book, seat: u32) -> Result<(), NoMemory>
 ///
 /// # Errors
 ///
-/// Where memory for the packet's parcel is wanting: the book is unchanged.
+/// Where memory for the packet's parcel or for a review's orders is wanting: the book is unchanged.
 pub fn turn(alloc: Global, book: &mut Book, seat: u32) -> Result<bool, NoMemory>
     requires seat { IsSeat book.old seat Driver }
     requires room { held book.old + 1 ≤ book.old.spare }

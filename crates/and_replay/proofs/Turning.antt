@@ -1,6 +1,6 @@
 -- A run under way, before its first turn, over a turn, and at its end.
 use Rattle.std.proofs.Common.{◌≡◌, ℕ, ◌+◌, ◌<◌, ◌≤◌, List, [], ◌∷◌, length, refl, sym, ap, ◌∙◌, subst, arith, Option, Some, None, get_or, ⊎_elim, true, false}
-use Rattle.std.specs.Prelude.{slice_get, is_some}
+use Rattle.std.specs.Prelude.{Bool, slice_get, is_some}
 use Rattle.std.specs.List.{fold}
 use Rattle.std.proofs.lemmas.List.{length-append}
 use Rattle.std.proofs.lemmas.Option.{slice_get_cases, slice_get_within}
@@ -32,14 +32,14 @@ use Rattle.and_replay.proofs.LastStep.{completes}
 pub same_now : (b b' : BookView) → b'.lines ≡ b.lines → b'.plan ≡ b.plan → now b' ≡ now b
 same_now b b' lines plan = ap (λ p. state p (past b'.lines)) plan ∙ ap (λ ls. state b.plan (past ls)) lines
 
-roomy : (b : BookView) (spare : ℕ) (p : Parts) → IsUnderWay b p → IsUnderWay (record b { spare = spare }) p
-roomy b spare p w = record { threads = w.threads; ordered = w.ordered; ways = w.ways; ends = w.ends; parts = w.parts }
+roomy : (b : BookView) (spare : ℕ) (prepared : Bool) (p : Parts) → IsUnderWay b p → IsUnderWay (record b { spare = spare; prepared = prepared }) p
+roomy b spare prepared p w = record { threads = w.threads; ordered = w.ordered; ways = w.ways; ends = w.ends; parts = w.parts }
 
 pub with_room : (b b' : BookView) (p : Parts) → b'.lines ≡ b.lines → b'.plan ≡ b.plan → b'.threads ≡ b.threads → IsUnderWay b p → IsUnderWay b' p
 with_room b b' x lines plan threads w =
-    subst (λ p. IsUnderWay (record { plan = p; threads = b'.threads; lines = b'.lines; spare = b'.spare }) x) (sym plan)
-    (subst (λ t. IsUnderWay (record { plan = b.plan; threads = t; lines = b'.lines; spare = b'.spare }) x) (sym threads)
-    (subst (λ ls. IsUnderWay (record { plan = b.plan; threads = b.threads; lines = ls; spare = b'.spare }) x) (sym lines) (roomy b b'.spare x w)))
+    subst (λ p. IsUnderWay (record { plan = p; threads = b'.threads; lines = b'.lines; spare = b'.spare; prepared = b'.prepared }) x) (sym plan)
+    (subst (λ t. IsUnderWay (record { plan = b.plan; threads = t; lines = b'.lines; spare = b'.spare; prepared = b'.prepared }) x) (sym threads)
+    (subst (λ ls. IsUnderWay (record { plan = b.plan; threads = b.threads; lines = ls; spare = b'.spare; prepared = b'.prepared }) x) (sym lines) (roomy b b'.spare b'.prepared x w)))
 
 -- ---- a turn
 
@@ -108,9 +108,10 @@ some_steps plan sound = some plan.steps sound.steps
     some [] f = absurd f
     some (step ∷ ss) f = omega arith
 
-begun : (plan : Plan) (spare : ℕ) (x : Parts) → IsSound plan → AreParts plan [] x → IsUnderWay (record { plan = plan; threads = 0; lines = []; spare = spare }) x
+begun : (plan : Plan) (spare : ℕ) (prepared : Bool) (x : Parts) → IsSound plan → AreParts plan [] x
+    → IsUnderWay (record { plan = plan; threads = 0; lines = []; spare = spare; prepared = prepared }) x
 unfolding IsInPlainOrder Ways state start
-begun plan spare x sound parts = record {
+begun plan spare prepared x sound parts = record {
   threads = refl;
   ordered = tt;
   ways = tt;
@@ -120,8 +121,8 @@ begun plan spare x sound parts = record {
 
 pub begins : (b : BookView) (x : Parts) → IsSound b.plan → b.threads ≡ 0 → b.lines ≡ [] → AreParts b.plan [] x → IsUnderWay b x
 begins b x sound threads lines parts =
-    subst (λ t. IsUnderWay (record { plan = b.plan; threads = t; lines = b.lines; spare = b.spare }) x) (sym threads)
-    (subst (λ ls. IsUnderWay (record { plan = b.plan; threads = 0; lines = ls; spare = b.spare }) x) (sym lines) (begun b.plan b.spare x sound parts))
+    subst (λ t. IsUnderWay (record { plan = b.plan; threads = t; lines = b.lines; spare = b.spare; prepared = b.prepared }) x) (sym threads)
+    (subst (λ ls. IsUnderWay (record { plan = b.plan; threads = 0; lines = ls; spare = b.spare; prepared = b.prepared }) x) (sym lines) (begun b.plan b.spare b.prepared x sound parts))
 
 -- ---- the end
 

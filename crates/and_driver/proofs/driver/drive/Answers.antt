@@ -27,4 +27,4 @@ hold-requires-clause-ready c = can_hold c.args.book.now.plan (now c.args.book.no
 
 pub unreachable-requires : goal.unreachable-requires
 unreachable-requires c =
-    no_other c.due_step.result c.due_step.ensures.built c.in_default.not-Append c.in_default.not-Inject c.in_default.not-Hold c.in_default.not-Free c.in_default.not-Wait c.in_default.not-Finish
+    no_other c.due_step.result c.due_step.ensures.built c.in_default.not-Append c.in_default.not-Inject c.in_default.not-Hold c.in_default.not-Free c.in_default.not-Wait c.in_default.not-Finish c.in_default.not-Review

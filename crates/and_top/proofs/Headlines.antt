@@ -12,6 +12,7 @@ use Rattle.and_events.specs.Sound.{IsSound}
 use Rattle.and_laws.proofs.Complete.{one_fate}
 use Rattle.and_laws.proofs.Fates.{accounted}
 use Rattle.and_laws.proofs.Justified.{just}
+use Rattle.and_laws.proofs.Offloading.{right_offloads}
 use Rattle.and_laws.proofs.Needs.{fresh}
 use Rattle.and_others.specs.Ways.{Ways}
 use Rattle.and_others.proofs.Once.{one_way_run}
@@ -53,6 +54,7 @@ is_whole_run plan h sound run complete spelled =
       fates = one_fate plan h sound run complete;
       just = just plan h sound run;
       fresh = fresh plan h run;
+      offloads = right_offloads plan h sound run;
       accounted = λ later earlier is. accounted plan earlier (earlier_runs plan later earlier (subst (Run plan) is run));
       spelled = spelled (runs_have_spellings plan h run);
     }

@@ -12,6 +12,7 @@ use Rattle.and_events.specs.Planned.{planned}
 use Rattle.and_events.specs.Run.{Run}
 use Rattle.and_events.specs.Sound.{IsSound, IsBuilt}
 use Rattle.and_laws.specs.Fates.{HasOneFate, IsAccounted}
+use Rattle.and_laws.specs.Offloads.{HasRightOffloads}
 use Rattle.and_others.specs.Ways.{Ways}
 use Rattle.and_outputs.specs.Delivered.{delivered}
 use Rattle.and_outputs.specs.Underlay.{underlay}
@@ -23,14 +24,15 @@ use Rattle.and_top.specs.Words.{Named}
 
 -- What every command says of its run, in whatever order the actors took their turns. The history, whose newest event is first, is a run of the plan to its end.
 -- Each packet of the plan has exactly one fate, for its reason, by decisions no older than what was installed when it was taken; and after each event the
--- packets injected so far are as many as the fates, the queued and the held together. Each event has a spelling: no other history whose events have one has
--- this trace
+-- packets injected so far are as many as the fates, the queued and the held together. A packet that is offloaded goes where the route of its network leads under the
+-- same prefix, as a gateway would have sent it. Each event has a spelling: no other history whose events have one has this trace
 pub record IsWholeRun (plan : Plan) (h : List Event) : Type 0 where
   pub run : Run plan h
   pub complete : IsComplete plan h
   pub fates : HasOneFate plan h
   pub just : (packet : ℕ) → Just plan h packet
   pub fresh : (packet : ℕ) → Fresh plan h packet
+  pub offloads : HasRightOffloads plan h
   pub accounted : (later earlier : List Event) → h ≡ later ++ earlier → IsAccounted plan earlier
   pub spelled : IsSpelled h
 

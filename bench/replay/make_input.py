@@ -1,7 +1,7 @@
 #!/usr/bin/env python3
 """Writes scenarios and captures for `run.sh`: 8 hosts, 4 networks of 15 rules each (60 in all), 40 VMs, and captures of the frames that are asked for, of 100
 bytes each; the same with 64 hosts, with 4 and with 4,000 rules in networks that no frame is of, and with 4 and with 256 rules in each network of the frames;
-and 10,000 frames of 1,400 bytes.
+with a tick every 1,000 frames, at which no flow reaches the threshold, and at which all do; and 10,000 frames of 1,400 bytes.
 
 Usage: make_input.py FOLDER FRAMES..
 """
@@ -20,18 +20,21 @@ def rule(net, r):
             "action": "allow" if r % 3 else "deny", "protocol": "tcp", "destination_ports": [port, port]}
 
 
-def scenario(hosts=HOSTS, rules=RULES, elsewhere=0):
-    """Each of the networks of the VMs has so many rules, and 20 others, which have no VM, have so many together."""
+def scenario(hosts=HOSTS, rules=RULES, elsewhere=0, threshold=None):
+    """Each of the networks of the VMs has so many rules, and 20 others, which have no VM, have so many together. With a threshold, 1,000 frames are sent a tick."""
     script = [{"do": "add_net", "net": 1 + n} for n in range(NETS + 20)]
     for v in range(VMS):
         script.append({"do": "add_vm", "vm": f"v{v}", "net": 1 + v % NETS, "mac": mac(v), "ip": f"10.0.0.{v + 1}", "host": v % hosts})
     script += [rule(1 + n, r) for n in range(NETS) for r in range(rules)]
     script += [rule(1 + NETS + r % 20, r // 20) for r in range(elsewhere)]
+    if threshold:
+        ticks = [{"do": "send", "frames": 1000}, {"do": "tick"}] * 100
+        return {"hosts": hosts, "gateways": 1, "threshold": threshold, "script": script + [{"do": "wait"}] + ticks}
     return {"hosts": hosts, "gateways": 1, "script": script + [{"do": "wait"}, {"do": "send"}]}
 
 
 SCENARIOS = {"scenario": {}, "64-hosts": {"hosts": 64}, "4-elsewhere": {"elsewhere": 4}, "4000-elsewhere": {"elsewhere": 4000},
-             "4-rules": {"rules": 4}, "256-rules": {"rules": 256}}
+             "4-rules": {"rules": 4}, "256-rules": {"rules": 256}, "ticks": {"threshold": 1_000_000}, "offloads": {"threshold": 500}}
 
 
 def mac(v):

@@ -1,5 +1,5 @@
 //! The run.
-ghost use Rattle.std.specs.Prelude.{◌≡◌, ◌+◌, ◌<◌, ◌≤◌, length, IfOk, OnOk, is_some, slice_get};
+ghost use Rattle.std.specs.Prelude.{◌≡◌, [], ◌+◌, ◌<◌, ◌≤◌, length, IfOk, OnOk, is_some, slice_get};
 ghost use Rattle.and_events.specs.Complete.{IsComplete};
 ghost use Rattle.and_events.specs.Ordered.{IsInPlainOrder};
 ghost use Rattle.and_events.specs.Run.{Run, past};
@@ -107,6 +107,23 @@ fn is_due(book: &Book) -> bool
     book.next_step().is_some()
 }
 
+/// As many events has a packet that goes over a gateway: an Inject, three Takes and three decisions; and one more for what the steps and the installers do.
+const EVENTS_A_PACKET: u32 = 8;
+
+// A book with room for the events of a run, so that its lines are seldom moved to a larger place. Where memory for that is wanting they get it as they come.
+fn open(alloc: Global, plan: Plan) -> Result<Book, NoMemory>
+    requires sound { IsSound plan }
+    requires built { IsBuilt plan }
+    ensures plan { IfOk result (λ b. b.plan ≡ plan) }
+    ensures threads { IfOk result (λ b. b.threads ≡ 0) }
+    ensures lines { IfOk result (λ b. b.lines ≡ []) }
+{
+    let packets = plan.packets.len().min(100_000) as u32;
+    let mut book = Book::make(alloc, plan, 0)?;
+    let _roomy = book.room(alloc, packets * EVENTS_A_PACKET);
+    Ok(book)
+}
+
 // All turns. How many rules workers look at is not asked.
 fn run<L: Ledger>(alloc: Global, plan: Plan, blank: Blank) -> Result<Book, NoMemory>
     requires name { blank.name ≡ L.name }
@@ -123,7 +140,7 @@ fn run<L: Ledger>(alloc: Global, plan: Plan, blank: Blank) -> Result<Book, NoMem
 {
     let mut steps: Steps<L> = Steps::new(blank);
     let mut parts = Parts::make(alloc, plan.settings)?;
-    let mut book = Book::make(alloc, plan, 0)?;
+    let mut book = open(alloc, plan)?;
     'turns: while is_due(&book) {
         turn(alloc, &mut book, &mut parts, &mut steps)?;
     }

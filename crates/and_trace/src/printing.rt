@@ -475,6 +475,9 @@ fn put_line(event: &Event, text: &mut Vec<u8>) -> Result<(), NoMemory>
     Ok(())
 }
 
+/// Most lines of a run take no more bytes, so the text is seldom moved to a larger place.
+const LINE_ROOM: usize = 40;
+
 /// The trace of the lines, oldest first: the first line is `andromeda trace 1`, and each event is a line of
 /// words, one space between two, numbers in decimal. Each line is to have a spelling, as the lines of a run have:
 /// an actor that takes no packets has no word of its own. The clause `spelled` says this: the numbers of the lines
@@ -485,7 +488,9 @@ pub fn print_trace(alloc: Global, lines: &[Line]) -> Result<Vec<u8>, NoMemory>
     ensures spelled { IfOk result (λ t. HaveSpellings (past lines.now) → IsSpelled (past lines.now)) }
     ensures readable { IfOk result (λ t. HaveSpellings (past lines.now) → Spells t.items (map (λ l. l.event) lines.now)) }
 {
-    let mut text = Vec::new(alloc);
+    let Ok(mut text) = Vec::with_capacity(alloc, lines.len().saturating_mul(LINE_ROOM)) else {
+        return Err(NoMemory);
+    };
     put(b"andromeda trace 1\n", &mut text)?;
     for line in lines {
         put_line(&line.event, &mut text)?;

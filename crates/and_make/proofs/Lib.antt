@@ -1,0 +1,4 @@
+pub mod Growing
+pub mod Drawing
+pub mod Taken
+pub mod Ranges

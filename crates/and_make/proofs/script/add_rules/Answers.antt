@@ -1,0 +1,9 @@
+use Rattle.and_make.specs.Script.{entering}
+use Rattle.and_make.proofs.Growing.{grown_none, grown_more}
+use Rattle.and_make.proofs.script.add_rules.Goals as goal
+
+pub loop-k-init : goal.loop-k-init
+loop-k-init c = grown_none entering c.args.items.now
+
+pub loop-k-preserved : goal.loop-k-preserved
+loop-k-preserved c = grown_more entering c.args.items.now c.loop-k.items _ c.loop-k.k _ c.loop-k.invariant c.entering.ensures c.in_ok-push.ensures.ok

@@ -1,0 +1,4 @@
+pub mod Lists
+pub mod Vms
+pub mod Script
+pub mod Frames

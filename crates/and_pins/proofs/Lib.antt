@@ -1,0 +1,5 @@
+mod Ordering
+mod Changes
+mod Ported
+mod Firsts
+pub mod Ripening

@@ -9,3 +9,4 @@ pub mod Adding
 pub mod Ended
 pub mod Framed
 pub mod WholeRuns
+pub mod RunOrders

@@ -7,5 +7,6 @@ pub mod Keys
 pub mod Totals
 pub mod Vms
 pub mod Orders
+pub mod Installed
 pub mod Rows
 pub mod Sums

@@ -1,4 +1,4 @@
-//! How many offload orders a run gave.
+//! How many offload orders the programmes have after any lines.
 ghost use Rattle.std.specs.Prelude.{◌≡◌, ◌<◌, length, slice_get, IfOk};
 ghost use Rattle.std.specs.List.{count_by, list_any};
 ghost use Rattle.and_events.specs.Places as places;

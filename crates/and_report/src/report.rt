@@ -1,9 +1,12 @@
 //! The report of a run.
 ghost use Rattle.std.specs.Prelude.{◌≡◌, ◌++◌, map, IfOk, OnOk};
-ghost use Rattle.and_events.specs.Run.{past};
+ghost use Rattle.and_events.specs.Run.{Run, past};
+ghost use Rattle.and_events.specs.Sound.{IsSound};
+ghost use Rattle.and_events.specs.State as states;
 ghost use Rattle.and_report.specs.Counts.{endings_of};
 ghost use Rattle.and_report.specs.Report as report;
 ghost use Rattle.and_report.specs.Rows.{row_view};
+ghost use Rattle.and_report.specs.Tally as tallies;
 ghost use Rattle.and_report.specs.Tally.{Tally};
 ghost use Rattle.and_report.specs.Totals as spec;
 
@@ -13,6 +16,7 @@ use crate::fate::Stage;
 use crate::items::put_items;
 use crate::orders::orders;
 use crate::rows::{Row, count_row, put, put_rows, put_some_rows};
+use crate::run_orders::orders_of_run;
 use crate::skips;
 use crate::totals::{FateTotals, totals_of};
 use crate::vm_nets::vm_nets;
@@ -88,15 +92,14 @@ fn put_drops(alloc: Global, totals: &FateTotals, text: &mut Vec<u8>) -> Result<(
     Ok(())
 }
 
-/// The text of the report of a run: of the plan, and of the lines of its book, the oldest first. Whether the lines
-/// are legal does not matter. Want of memory is the one error.
+// The text of the report, of the plan and of the lines of its book, the oldest first, after which the programmes have so many orders.
 #[tactic(auto, unfolding(crate::specs::Report::text_of))]
-pub fn report_text(alloc: Global, plan: &Plan, lines: &[Line]) -> Result<Vec<u8>, NoMemory>
-    ensures text { IfOk result (λ text. text.items ≡ report.report plan.now (past lines.now)) }
+fn text_with(alloc: Global, plan: &Plan, lines: &[Line], orders: u64) -> Result<Vec<u8>, NoMemory>
+    requires { orders ≡ tallies.orders_among (states.state plan.now (past lines.now)).programmes.ops }
+    ensures { IfOk result (λ text. text.items ≡ report.report plan.now (past lines.now)) }
 {
     let vm_nets = vm_nets(alloc, plan)?;
     let totals = totals_of(alloc, plan, &vm_nets, lines)?;
-    let orders = orders(alloc, plan, lines)?;
     let rows = head_rows(plan, totals.fates.endings, totals.traffic, orders);
     let mut text = Vec::new(alloc);
     put(&mut text, b"andromeda report 1\n")?;
@@ -106,4 +109,25 @@ pub fn report_text(alloc: Global, plan: &Plan, lines: &[Line]) -> Result<Vec<u8>
     put_items(alloc, plan.refused.as_slice(), &mut text)?;
     put_vms(alloc, plan, &vm_nets, &totals.fates.received, &mut text)?;
     Ok(text)
+}
+
+/// The text of the report of a run: of the plan, and of the lines of its book, the oldest first. Where the run has ended, a few passes over
+/// the lines give it; where it has not, the orders of a plan with a review are counted as [`report_of_lines`] counts them. Want of memory
+/// is the one error.
+pub fn report_text(alloc: Global, plan: &Plan, lines: &[Line]) -> Result<Vec<u8>, NoMemory>
+    requires sound { IsSound plan.now }
+    requires run { Run plan.now (past lines.now) }
+    ensures text { IfOk result (λ text. text.items ≡ report.report plan.now (past lines.now)) }
+{
+    let orders = orders_of_run(alloc, plan, lines)?;
+    text_with(alloc, plan, lines, orders)
+}
+
+/// The text of the report of any lines, also of those that are no run. It goes through the whole state where the plan has a review, in
+/// a time that grows with the square of the log. Want of memory is the one error.
+pub fn report_of_lines(alloc: Global, plan: &Plan, lines: &[Line]) -> Result<Vec<u8>, NoMemory>
+    ensures text { IfOk result (λ text. text.items ≡ report.report plan.now (past lines.now)) }
+{
+    let orders = orders(alloc, plan, lines)?;
+    text_with(alloc, plan, lines, orders)
 }

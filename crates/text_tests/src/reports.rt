@@ -6,7 +6,7 @@ use and_events::{
     Settings, SkipReason, Step,
 };
 use and_policy::{Dest, Entry, EntryFault, Name, Skip, Tuple, Way};
-use and_report::report_text;
+use and_report::report_of_lines;
 use std::alloc::Global;
 use std::process::Abort;
 use std::test::Fail;
@@ -227,7 +227,7 @@ fn check(
     text: &str,
 ) -> Result<(), Fail> {
     let lines = lines(alloc, events)?;
-    let report = report_text(alloc, plan, &lines)?;
+    let report = report_of_lines(alloc, plan, &lines)?;
     assert!(rt; report.as_slice() == text.as_bytes());
     Ok(())
 }

@@ -2,6 +2,7 @@ pub mod Counts
 pub mod LanesLemmas
 pub mod HandsLemmas
 pub mod NodesLemmas
+pub mod FloorLemmas
 pub mod OrdersLemmas
 pub mod MovesLemmas
 pub mod NumbersLemmas

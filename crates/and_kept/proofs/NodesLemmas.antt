@@ -86,7 +86,7 @@ up_to_date n e = ap not (eq-eqb n.installed (length n.ops) e)
 pub ops_at : (nodes : List Programmed) (i : ℕ) → i < length nodes → get_or (map (λ n. n.ops) nodes) i [] ≡ (node_at nodes i).ops
 ops_at nodes i h = get_or-map (λ (n : Programmed). n.ops) nodes i no_programme [] h
 
-installed_there : (nodes : List Programmed) (i : ℕ) → i < length nodes → get_or (map (λ n. n.installed) nodes) i 0 ≡ (node_at nodes i).installed
+pub installed_there : (nodes : List Programmed) (i : ℕ) → i < length nodes → get_or (map (λ n. n.installed) nodes) i 0 ≡ (node_at nodes i).installed
 installed_there nodes i h = get_or-map (λ (n : Programmed). n.installed) nodes i no_programme 0 h
 
 -- none is behind exactly where each has installed its whole programme
@@ -167,7 +167,7 @@ pub record HaveEntry (e : Entry) (before nodes : List Programmed) (i : ℕ) : Ty
   pub same : length nodes ≡ length before
   pub later : (k : ℕ) → i ≤ k → node_at nodes k ≡ node_at before k
 
-in_range_same : {X : Type 0} (xs : List X) (i : ℕ) (d f : X) → i < length xs → get_or xs i d ≡ get_or xs i f
+pub in_range_same : {X : Type 0} (xs : List X) (i : ℕ) (d f : X) → i < length xs → get_or xs i d ≡ get_or xs i f
 in_range_same [] i d f h = absurd (omega (arith, h))
 in_range_same (x ∷ xs) zero d f h = refl
 in_range_same (x ∷ xs) (suc i) d f h = in_range_same xs i d f (omega (arith, h))

@@ -48,11 +48,13 @@ pub record IsProgrammed (n : Programmed) (capacity : ℕ) : Type 0 where
 
 -- ---- all nodes
 
--- the log and the programmes, how many entries the log has room for, and how many operations each programme has room for
+-- the log and the programmes, how many entries the log has room for, how many operations each programme has room for, and how many log
+-- entries every node has installed
 pub record NodesView : Type 0 where
   pub programmes : Programmes
   pub limit : ℕ
   pub rooms : List ℕ
+  pub least : ℕ
 
 abbrev pub programmes_of : List Entry → List Programmed → Programmes
 programmes_of log nodes =
@@ -80,15 +82,31 @@ pub record IsProgress (log : List Entry) (nodes : List Programmed) (p : Placemen
   pub reserved : limit ≤ capacity
   pub small : limit < 2 ^ 32
 
+-- ---- what every node has installed
+
+-- how many log entries the node has installed
+abbrev pub height : Programmed → ℕ
+height n = length (prefix n.ops n.installed)
+
+abbrev pub heights : List Programmed → List ℕ
+heights nodes = map height nodes
+
+-- none has installed fewer, and so many have installed no more
+pub record IsFloor (hs : List ℕ) (least lowest : ℕ) : Type 0 where
+  pub below : All (λ n. least ≤ n) hs
+  pub count : lowest ≡ count_by (λ n. n == least) hs
+  pub some : 0 < length hs → 0 < lowest
+
 -- ---- who may announce or install
 
 -- the log and the programmes, how many entries the log has room for, how many operations each programme has room for, and at
--- which nodes installs are held
+-- which nodes installs are held; and how many log entries every node has installed
 pub record Progressed : Type 0 where
   pub programmes : Programmes
   pub limit : ℕ
   pub rooms : List ℕ
   pub held : List Bool
+  pub least : ℕ
 
 -- the installer of the node at this place may announce, or has announced something that is not installed
 unfoldable pub is_ready : Programmes → List Bool → ℕ → Bool
@@ -115,7 +133,7 @@ abbrev pub HaveRoom : NodesView → List Given → Type 0
 HaveRoom v orders = All (λ g. HasRoomFor v (length orders) g.host) orders
 
 abbrev pub nodes_in : Progressed → NodesView
-nodes_in v = record { programmes = v.programmes; limit = v.limit; rooms = v.rooms }
+nodes_in v = record { programmes = v.programmes; limit = v.limit; rooms = v.rooms; least = v.least }
 
 -- each order's host has room for all of the orders, beside the entries that the log still has room for
 pub record HasOrderRoom (v : Progressed) (orders : List Given) : Type 0 where

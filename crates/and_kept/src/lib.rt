@@ -1,7 +1,7 @@
 //! What is kept of a running system: for each component of its state one struct, which contracts see as that component.
 //!
 //! [`Traffic`] has the packets: bounded queues of parcels, what each actor has in hand, and what is known of each packet
-//! on its way. [`Progress`] has the log and each node's programme, with how much of it is announced and installed.
+//! on its way. [`Progress`] has the log and each node's programme, with how much of it is announced and installed, and how many entries every node has installed.
 //! Each method is one change of the definition's state, and says so: what contracts see after it is what the definition
 //! makes of what they saw before it.
 //!
@@ -10,12 +10,13 @@
 //! is looked at a word of 64 numbers at a time. No call takes memory but `make` and `Progress::room_for`, which makes room for
 //! offload orders in their hosts' programmes before a review gives them.
 //!
-//! It stands on `and_events`, whose components these are, on `and_parcel` for the parcels, on `and_ports` for the ports of
-//! the VMs, and on `and_policy` for the entries of the log.
+//! It stands on `and_events`, whose components these are, on `and_parcel` for the parcels, on `and_ports` and `and_pins` for the ports of
+//! the VMs and what ends a hairpin, and on `and_policy` for the entries of the log.
 #![tactic(auto)]
 
 mod busy;
 mod count;
+mod floor;
 mod hall;
 mod hands;
 mod nodes;

@@ -5,9 +5,11 @@ ghost use Rattle.and_policy.specs.declared.entry.Op.TheVariants as ops;
 ghost use Rattle.and_policy.specs.Owners as owners;
 ghost use Rattle.and_policy.specs.Programmes as programmes;
 ghost use Rattle.and_events.specs.Programming.{Logs, Orders, Announces, Installs, HasInstalled, programmes_after, programme_at, announced_at, installed_at};
-ghost use Rattle.and_kept.specs.Nodes.{Programmed, with_entry, with_op, is_behind, node_at, room_at, HasRoomFor, HaveRoom};
+ghost use Rattle.and_kept.specs.Nodes.{Programmed, with_entry, with_op, is_behind, height, heights, node_at, room_at, HasRoomFor, HaveRoom};
+ghost use Rattle.and_pins.specs.Pinned.{IsLeast};
 
 use crate::count::one_if;
+use crate::floor::{Floor, risen};
 use crate::programme::Programme;
 use and_events::Given;
 use and_policy::{Entry, NoMemory, Op, Order, Placements};
@@ -24,18 +26,19 @@ pub(crate) struct Nodes {
     nodes: Vec<Programme>,
     placements: Placements,
     behind: usize,
+    floor: Floor,
     limit: u32,
 }
 
 impl Model for Nodes {
     ghost use Rattle.std.specs.Prelude.{vec_capacity};
-    ghost use Rattle.and_kept.specs.Nodes.{NodesView, programmes_of, rooms_of, IsProgress};
+    ghost use Rattle.and_kept.specs.Nodes.{NodesView, programmes_of, rooms_of, heights, IsProgress, IsFloor};
 
     ghost Value = { NodesView };
 
-    ghost view = { λ p. record { programmes = programmes_of p.log.items p.nodes.items; limit = p.limit; rooms = rooms_of p.nodes.items } };
+    ghost view = { λ p. record { programmes = programmes_of p.log.items p.nodes.items; limit = p.limit; rooms = rooms_of p.nodes.items; least = p.floor.least } };
 
-    ghost invariant = { λ p. IsProgress p.log.items p.nodes.items p.placements p.behind p.limit (vec_capacity p.log) };
+    ghost invariant = { λ p. IsProgress p.log.items p.nodes.items p.placements p.behind p.limit (vec_capacity p.log) × IsFloor (heights p.nodes.items) p.floor.least p.floor.count };
 }
 
 #[tactic(auto, unfolding(and_events::specs::Programming::programmes_after))]
@@ -44,18 +47,24 @@ impl Nodes {
     pub(crate) fn make(alloc: Global, nodes: usize, limit: u32) -> Result<Nodes, NoMemory>
         ensures programmes { IfOk result (λ p. p.programmes ≡ record { log = []; ops = replicate nodes []; announced = replicate nodes 0; installed = replicate nodes 0 }) }
         ensures limit { IfOk result (λ p. p.limit ≡ limit) }
+        ensures least { IfOk result (λ p. p.least ≡ 0) }
     {
         let Ok(log) = Vec::with_capacity(alloc, limit as usize) else {
             return Err(NoMemory);
         };
         let mut placements = Placements::new(alloc);
         placements.room(limit as usize)?;
+        let floor = Floor {
+            least: 0,
+            count: nodes,
+        };
         let nodes = make_nodes(alloc, nodes, limit)?;
         Ok(Nodes {
             log,
             nodes,
             placements,
             behind: 0,
+            floor,
             limit,
         })
     }
@@ -111,6 +120,14 @@ impl Nodes {
         self.behind == 0
     }
 
+    /// How many log entries every node has installed.
+    pub(crate) fn least(&self) -> u32
+        ensures is { result ≡ self.now.least }
+        ensures least { 0 < length self.now.programmes.ops → IsLeast self.now.programmes result }
+    {
+        self.floor.least
+    }
+
     /// The network to which the log added the VM.
     pub(crate) fn net(&self, vm: u32) -> Option<u32>
         ensures { result ≡ programmes.net_of_vm self.now.programmes.log vm }
@@ -137,6 +154,7 @@ impl Nodes {
         requires { length self.old.programmes.log < self.old.limit }
         ensures programmes { self.new.programmes ≡ programmes_after self.old.programmes (Logs entry) }
         ensures limit { self.new.limit ≡ self.old.limit }
+        ensures least { self.new.least ≡ self.old.least }
     {
         push_all(&mut self.nodes, entry);
         self.behind = self.nodes.len();
@@ -154,6 +172,7 @@ impl Nodes {
         requires small { All (λ g. length (programme_at self.old.programmes g.host) + self.old.limit + length orders.now < 2 ^ 32) orders.now }
         ensures programmes { self.new.programmes ≡ self.old.programmes }
         ensures limit { self.new.limit ≡ self.old.limit }
+        ensures least { self.new.least ≡ self.old.least }
         ensures room { OnOk result (HaveRoom self.new orders.now) }
     {
         for given in orders {
@@ -168,6 +187,7 @@ impl Nodes {
         requires small { length (programme_at self.old.programmes node) + self.old.limit + count < 2 ^ 32 }
         ensures programmes { self.new.programmes ≡ self.old.programmes }
         ensures limit { self.new.limit ≡ self.old.limit }
+        ensures least { self.new.least ≡ self.old.least }
         ensures never_less { (k : ℕ) → room_at self.old.rooms k ≤ room_at self.new.rooms k }
         ensures room { OnOk result (HasRoomFor self.new count node) }
     {
@@ -181,6 +201,7 @@ impl Nodes {
         requires room { HasRoomFor self.old 1 given.host }
         ensures programmes { self.new.programmes ≡ programmes_after self.old.programmes (Orders (given ∷ [])) }
         ensures limit { self.new.limit ≡ self.old.limit }
+        ensures least { self.new.least ≡ self.old.least }
         ensures rooms { self.new.rooms ≡ self.old.rooms }
     {
         let host = given.host as usize;
@@ -195,6 +216,7 @@ impl Nodes {
         ensures upto { result ≡ length (programme_at self.old.programmes node) }
         ensures programmes { self.new.programmes ≡ programmes_after self.old.programmes (Announces node result) }
         ensures limit { self.new.limit ≡ self.old.limit }
+        ensures least { self.new.least ≡ self.old.least }
     {
         announce_at(&mut self.nodes, node)
     }
@@ -207,9 +229,12 @@ impl Nodes {
         ensures limit { self.new.limit ≡ self.old.limit }
     {
         let was_behind = is_behind_at(&self.nodes, node);
+        let before = height_at(&self.nodes, node);
         let upto = install_at(&mut self.nodes, node);
         let now_behind = is_behind_at(&self.nodes, node);
         self.behind = self.behind - one_if(was_behind) + one_if(now_behind);
+        let after = height_at(&self.nodes, node);
+        self.floor = risen(&self.nodes, self.floor, before, after);
         upto
     }
 }
@@ -232,6 +257,7 @@ fn make_nodes(alloc: Global, count: usize, limit: u32) -> Result<Vec<Programme>,
 fn push_all(nodes: &mut Vec<Programme>, entry: Entry)
     requires { All (λ n. length n.ops < n.limit) nodes.old.items }
     ensures nodes { nodes.new.items ≡ map (with_entry entry) nodes.old.items }
+    ensures heights { heights nodes.new.items ≡ heights nodes.old.items }
     ensures behind { All (λ n. is_behind n ≡ true) nodes.new.items }
 {
     let count = nodes.len();
@@ -245,6 +271,7 @@ fn push_at(nodes: &mut Vec<Programme>, node: usize, entry: Entry)
     requires node { node < length nodes.old.items }
     requires room { length (node_at nodes.old.items node).ops < (node_at nodes.old.items node).limit }
     ensures nodes { nodes.new.items ≡ slice_set nodes.old.items node (with_entry entry (node_at nodes.old.items node)) }
+    ensures heights { heights nodes.new.items ≡ heights nodes.old.items }
     ensures behind { is_behind (node_at nodes.new.items node) ≡ true }
 {
     let programme = &mut nodes[node];
@@ -256,6 +283,7 @@ fn make_room_in(nodes: &mut Vec<Programme>, node: usize, count: u32) -> Result<(
     requires node { node < length nodes.old.items }
     requires small { length (node_at nodes.old.items node).ops + count < 2 ^ 32 }
     ensures nodes { nodes.new.items ≡ slice_set nodes.old.items node (record (node_at nodes.old.items node) { limit = (node_at nodes.new.items node).limit }) }
+    ensures heights { heights nodes.new.items ≡ heights nodes.old.items }
     ensures never_less { (node_at nodes.old.items node).limit ≤ (node_at nodes.new.items node).limit }
     ensures room { OnOk result (length (node_at nodes.old.items node).ops + count ≤ (node_at nodes.new.items node).limit) }
 {
@@ -268,6 +296,7 @@ fn give_at(nodes: &mut Vec<Programme>, node: usize, order: Order)
     requires node { node < length nodes.old.items }
     requires room { length (node_at nodes.old.items node).ops < (node_at nodes.old.items node).limit }
     ensures nodes { nodes.new.items ≡ slice_set nodes.old.items node (with_op (ops.Offload order) (node_at nodes.old.items node)) }
+    ensures heights { heights nodes.new.items ≡ heights nodes.old.items }
     ensures behind { is_behind (node_at nodes.new.items node) ≡ true }
 {
     let programme = &mut nodes[node];
@@ -283,11 +312,21 @@ fn is_behind_at(nodes: &[Programme], node: usize) -> bool
     entry.is_behind()
 }
 
+// How many log entries the node has installed.
+fn height_at(nodes: &[Programme], node: usize) -> u32
+    requires { node < length nodes.now }
+    ensures { result ≡ height (node_at nodes.now node) }
+{
+    let entry = &nodes[node];
+    entry.entries_installed()
+}
+
 // The node announces its whole programme, and how long that is.
 fn announce_at(nodes: &mut Vec<Programme>, node: usize) -> u32
     requires { node < length nodes.old.items }
     ensures upto { result ≡ length (node_at nodes.old.items node).ops }
     ensures nodes { let n = node_at nodes.old.items node in nodes.new.items ≡ slice_set nodes.old.items node (record n { announced = length n.ops }) }
+    ensures heights { heights nodes.new.items ≡ heights nodes.old.items }
 {
     let entry = &mut nodes[node];
     entry.announce();
@@ -299,6 +338,8 @@ fn install_at(nodes: &mut Vec<Programme>, node: usize) -> u32
     requires { node < length nodes.old.items }
     ensures upto { result ≡ (node_at nodes.old.items node).announced }
     ensures nodes { let n = node_at nodes.old.items node in nodes.new.items ≡ slice_set nodes.old.items node (record n { installed = n.announced }) }
+    ensures heights { heights nodes.new.items ≡ slice_set (heights nodes.old.items) node (height (node_at nodes.new.items node)) }
+    ensures higher { height (node_at nodes.old.items node) ≤ height (node_at nodes.new.items node) }
 {
     let entry = &mut nodes[node];
     entry.install();

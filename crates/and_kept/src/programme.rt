@@ -2,7 +2,7 @@
 ghost use Rattle.std.specs.Prelude.{◌≡◌, ◌+◌, ◌<◌, ◌≤◌, ◌^◌, [], length, true, IfOk, OnOk};
 ghost use Rattle.and_policy.specs.Programmes.{prefix};
 ghost use Rattle.and_policy.specs.declared.entry.Op.TheVariants as ops;
-ghost use Rattle.and_kept.specs.Nodes.{with_entry, with_op, is_behind};
+ghost use Rattle.and_kept.specs.Nodes.{with_entry, with_op, is_behind, height};
 
 use and_policy::{Entry, NoMemory, Op, Order};
 use std::alloc::Global;
@@ -93,6 +93,7 @@ impl Programme {
         requires { length self.old.ops < self.old.limit }
         ensures programme { self.new ≡ with_entry entry self.old }
         ensures behind { is_behind self.new ≡ true }
+        ensures height { height self.new ≡ height self.old }
     {
         self.ops.push_reserved(Op::Entry(entry));
         self.entry_count += 1;
@@ -123,6 +124,7 @@ impl Programme {
         requires { length self.old.ops < self.old.limit }
         ensures programme { self.new ≡ with_op (ops.Offload order) self.old }
         ensures behind { is_behind self.new ≡ true }
+        ensures height { height self.new ≡ height self.old }
     {
         self.ops.push_reserved(Op::Offload(order));
     }
@@ -137,7 +139,8 @@ impl Programme {
 
     /// What is announced is installed.
     pub(crate) fn install(&mut self)
-        ensures { self.new ≡ record self.old { installed = self.old.announced } }
+        ensures programme { self.new ≡ record self.old { installed = self.old.announced } }
+        ensures higher { height self.old ≤ height self.new }
     {
         self.installed = self.announced;
         self.installed_entries = self.announced_entries;

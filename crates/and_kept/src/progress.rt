@@ -4,6 +4,7 @@ ghost use Rattle.std.specs.List.{All};
 ghost use Rattle.and_events.specs.Programming.{Logs, Orders, Announces, Installs, HasInstalled, programmes_after, programme_at, announced_at, installed_at};
 ghost use Rattle.and_kept.specs.Nodes as spec;
 ghost use Rattle.and_kept.specs.Numbers.{has, count_below};
+ghost use Rattle.and_pins.specs.Pinned.{IsLeast};
 ghost use Rattle.and_policy.specs.Owners as owners;
 ghost use Rattle.and_policy.specs.Programmes as programmes;
 
@@ -32,7 +33,7 @@ impl Model for Progress {
 
     ghost Value = { Progressed };
 
-    ghost view = { λ p. record { programmes = p.nodes.programmes; limit = p.nodes.limit; rooms = p.nodes.rooms; held = p.held.items } };
+    ghost view = { λ p. record { programmes = p.nodes.programmes; limit = p.nodes.limit; rooms = p.nodes.rooms; held = p.held.items; least = p.nodes.least } };
 
     ghost invariant = { λ p. AreReadied p.nodes.programmes p.held.items p.ready };
 }
@@ -72,6 +73,7 @@ impl Progress {
         ensures programmes { IfOk result (λ p. p.programmes ≡ record { log = []; ops = replicate nodes []; announced = replicate nodes 0; installed = replicate nodes 0 }) }
         ensures limit { IfOk result (λ p. p.limit ≡ limit) }
         ensures held { IfOk result (λ p. p.held ≡ replicate nodes false) }
+        ensures least { IfOk result (λ p. p.least ≡ 0) }
     {
         let held = no_marks(alloc, nodes)?;
         let mut ready = NumberSet::make(alloc, nodes as u32)?;
@@ -128,6 +130,14 @@ impl Progress {
         self.nodes.all_installed()
     }
 
+    /// How many log entries every node has installed.
+    pub fn least(&self) -> u32
+        ensures is { result ≡ self.now.least }
+        ensures least { 0 < length self.now.programmes.ops → IsLeast self.now.programmes result }
+    {
+        self.nodes.least()
+    }
+
     /// The network to which the log added the VM.
     pub fn net(&self, vm: u32) -> Option<u32>
         ensures { result ≡ programmes.net_of_vm self.now.programmes.log vm }
@@ -181,6 +191,7 @@ impl Progress {
         ensures programmes { self.new.programmes ≡ programmes_after self.old.programmes (Logs entry) }
         ensures limit { self.new.limit ≡ self.old.limit }
         ensures held { self.new.held ≡ self.old.held }
+        ensures least { self.new.least ≡ self.old.least }
     {
         self.nodes.append(entry);
         let count = self.held.len() as u32;
@@ -198,6 +209,7 @@ impl Progress {
         ensures programmes { self.new.programmes ≡ self.old.programmes }
         ensures limit { self.new.limit ≡ self.old.limit }
         ensures held { self.new.held ≡ self.old.held }
+        ensures least { self.new.least ≡ self.old.least }
         ensures room { OnOk result (spec.HasOrderRoom self.new orders.now) }
     {
         let _ = alloc;
@@ -211,6 +223,7 @@ impl Progress {
         ensures programmes { self.new.programmes ≡ programmes_after self.old.programmes (Orders orders.now) }
         ensures limit { self.new.limit ≡ self.old.limit }
         ensures held { self.new.held ≡ self.old.held }
+        ensures least { self.new.least ≡ self.old.least }
     {
         for given in orders {
             self.give_one(*given);
@@ -225,6 +238,7 @@ impl Progress {
         ensures limit { self.new.limit ≡ self.old.limit }
         ensures rooms { self.new.rooms ≡ self.old.rooms }
         ensures held { self.new.held ≡ self.old.held }
+        ensures least { self.new.least ≡ self.old.least }
     {
         self.nodes.give(given);
         let host = given.host;
@@ -238,6 +252,7 @@ impl Progress {
         ensures programmes { self.new.programmes ≡ programmes_after self.old.programmes (Announces node result) }
         ensures limit { self.new.limit ≡ self.old.limit }
         ensures held { self.new.held ≡ self.old.held }
+        ensures least { self.new.least ≡ self.old.least }
     {
         let upto = self.nodes.announce(node);
         refresh(

@@ -1,5 +1,5 @@
 mod Ordering
 mod Changes
-mod Ported
+pub mod Ported
 mod Firsts
 pub mod Ripening

@@ -5,5 +5,5 @@ use Rattle.and_kept.proofs.nodes.Nodes.added.Goals as goal
 
 pub returns : goal.returns
 returns c =
-    let inv = c.self.invariant in
+    let inv = c.self.invariant.0 in
     c.added.ensures c.self.inside.log.items (omega (arith, inv.logged, inv.small)) inv.placed ∙ ap (λ (p : NodesView). added_at p.programmes.log c.args.vm) c.self.view_is

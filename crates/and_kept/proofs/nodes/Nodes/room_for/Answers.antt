@@ -15,6 +15,7 @@ loop-given-preserved c =
     record {
       programmes = c.make_room.ensures.programmes ∙ c.loop-given.invariant.programmes;
       limit = c.make_room.ensures.limit ∙ c.loop-given.invariant.limit;
+      least = c.make_room.ensures.least ∙ c.loop-given.invariant.least;
       room = All-more (λ (g : Given). HasRoomFor v' (length orders) g.host) orders c.loop-given.given-index _ c.loop-given-test.true
           (All-weaker (λ (g : Given). HasRoomFor v (length orders) g.host) (λ g. HasRoomFor v' (length orders) g.host)
           (λ g. room_stays v v' (length orders) g.host c.make_room.ensures.programmes c.make_room.ensures.limit c.make_room.ensures.never_less) (take c.loop-given.given-index orders) c.loop-given.invariant.room)

@@ -11,6 +11,7 @@ loop-given-preserved c =
       programmes = orders_more c.loop-given.self.programmes c.give_one.new.self.programmes orders at _ c.loop-given-test.true c.give_one.ensures.programmes ∙ c.loop-given.invariant.programmes;
       limit = c.give_one.ensures.limit ∙ c.loop-given.invariant.limit;
       held = c.give_one.ensures.held ∙ c.loop-given.invariant.held;
+      least = c.give_one.ensures.least ∙ c.loop-given.invariant.least;
       can = can_give_more (nodes_in c.loop-given.self) (nodes_in c.give_one.new.self) orders at _ c.loop-given-test.true c.loop-given.invariant.can c.give_one.ensures.programmes c.give_one.ensures.limit c.give_one.ensures.rooms;
     }
 

@@ -10,5 +10,6 @@ invariant-loop-given l = record {
   programmes : programmes_after l.self.programmes (Orders (drop l.given-index l.orders)) ≡ programmes_after l.fn.self.programmes (Orders l.orders);
   limit : l.self.limit ≡ l.fn.self.limit;
   held : l.self.held ≡ l.fn.self.held;
+  least : l.self.least ≡ l.fn.self.least;
   can : CanGive (nodes_in l.self) (drop l.given-index l.orders);
 }

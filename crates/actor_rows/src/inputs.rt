@@ -1,6 +1,7 @@
 //! What is planned: five entries, and one packet.
 ghost use Rattle.std.specs.Prelude.{◌≤◌, length, IfOk};
-ghost use Rattle.and_events.specs.Sound.{IsSound, IsBuilt};
+ghost use Rattle.and_events.specs.Sound.{IsSound};
+ghost use Rattle.and_built.specs.Built.{IsBuilt};
 ghost use Rattle.and_planner.specs.Scenarios.{IsScenario, IsBuiltScenario};
 
 use and_capture::{Bytes, Capture, Frames, Taken};

@@ -1,5 +1,5 @@
 -- A packet that has come for a VM and is settled: the event is legal, and what is kept after it.
-use Rattle.std.proofs.Common.{◌≡◌, ℕ, ◌<◌, Bool, length, refl, arith, inl, inr}
+use Rattle.std.proofs.Common.{◌≡◌, ℕ, ◌<◌, Bool, List, length, refl, arith, inl, inr}
 use Rattle.and_policy.specs.declared.decision.Name.{Name}
 use Rattle.and_policy.specs.declared.decision.Landing.{Landing}
 use Rattle.and_policy.specs.declared.decision.Landing.TheVariants as landings
@@ -9,12 +9,16 @@ use Rattle.and_policy.specs.declared.port.Port.TheVariants as port_states
 use Rattle.and_policy.specs.FlowHash.{gateway_of}
 use Rattle.and_events.specs.declared.event.Actor.{Actor}
 use Rattle.and_events.specs.declared.event.Endpoint.TheVariants as endpoints
+use Rattle.and_events.specs.declared.event.Event.{Event}
 use Rattle.and_events.specs.declared.event.Queue.TheVariants.{Wire}
 use Rattle.and_events.specs.declared.plan.Plan.{Plan}
 use Rattle.and_events.specs.Places.{queue_count, node_of, IsWorker}
 use Rattle.and_events.specs.Ports.{port_at}
-use Rattle.and_events.specs.State.{State, host_of, tuple_at}
+use Rattle.and_events.specs.Run.{Run}
+use Rattle.and_events.specs.Sound.{IsSound}
+use Rattle.and_events.specs.State.{State, state, host_of, tuple_at}
 use Rattle.and_events.specs.Legal.{Legal, Decides, Arrives}
+use Rattle.and_laws.proofs.Leads.{to_nodes}
 use Rattle.and_kept.specs.Settling.{arrival_at, arrival_of, LeadsPort, LeadsLanding}
 use Rattle.and_book.specs.Settling.{landing_said, ingress_event}
 use Rattle.and_book.proofs.Ends.{Within, sends_end}
@@ -41,3 +45,16 @@ pub legal_ingress : (plan : Plan) (s : State) (a : Actor) (i at : ℕ) (way : Wa
 unfolding Legal
 legal_ingress plan s a i at way decides worker some leads sized w =
     (decides, worker, arrives_end plan s (host_of (node_of a)) i (landing_said plan s a i at) some leads sized w)
+
+-- ---- in a run a hairpin leads to a host of the plan
+
+leads_port : (plan : Plan) (h : List Event) (here vm : ℕ) (port : Port) → IsSound plan → Run plan h → port_at (state plan h).ports here vm ≡ port → LeadsPort plan.settings port
+leads_port plan h here vm (port_states.Hairpin to entry) sound r is = (to_nodes plan h sound r).hairpins here vm to entry is
+leads_port plan h here vm port_states.Absent sound r is = tt
+leads_port plan h here vm port_states.Running sound r is = tt
+leads_port plan h here vm port_states.Paused sound r is = tt
+leads_port plan h here vm port_states.Arriving sound r is = tt
+
+pub leads_landing : (plan : Plan) (h : List Event) (here : ℕ) (said : Landing) → IsSound plan → Run plan h → LeadsLanding plan.settings (state plan h).ports here said
+leads_landing plan h here landings.NoOwner sound r = tt
+leads_landing plan h here (landings.Owned vm by pass) sound r = leads_port plan h here vm (port_at (state plan h).ports here vm) sound r refl

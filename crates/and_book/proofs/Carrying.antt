@@ -36,7 +36,8 @@ use Rattle.and_events.specs.State.{state, start, after, move_of, send, departs, 
 use Rattle.and_events.specs.Legal.{Legal, entries_at}
 use Rattle.and_events.specs.Run.{Run}
 use Rattle.and_events.specs.Just.{address}
-use Rattle.and_events.specs.Sound.{IsSound, IsBuilt}
+use Rattle.and_events.specs.Sound.{IsSound}
+use Rattle.and_built.specs.Built.{IsBuilt}
 use Rattle.and_laws.proofs.Offloading.{right_orders, by_order, dest_of}
 use Rattle.and_laws.proofs.Rows.{set_at}
 use Rattle.and_kept.specs.Settling.{LeadsRouted}
@@ -65,8 +66,8 @@ net_more plan k (entry_kinds.AddVm v net mac ip h) vm is fit =
     subst (λ n. n ≤ 16777215) (sym (net_first k v net mac ip h vm (v == vm) refl)) (either (v == vm) net (net_in k vm) is.1 fit)
 net_more plan k (entry_kinds.AddNet net) vm is fit = fit
 net_more plan k (entry_kinds.AddRule net rule) vm is fit = fit
-net_more plan k (entry_kinds.RemoveVm v) vm is fit = absurd is
-net_more plan k (entry_kinds.Place v h) vm is fit = absurd is
+net_more plan k (entry_kinds.RemoveVm v) vm is fit = fit
+net_more plan k (entry_kinds.Place v h) vm is fit = fit
 net_more plan k (entry_kinds.DelRule net number) vm is fit = fit
 net_more plan k (entry_kinds.AddRoute net r) vm is fit = fit
 net_more plan k (entry_kinds.DelRoute net number) vm is fit = fit

@@ -26,7 +26,8 @@ use Rattle.and_events.specs.Places.{queue_place, queue_count, node_of, IsNode, I
 use Rattle.and_events.specs.State.{State, state, dest_endpoint, dest_net, node_at, source_net, packet_at, tuple_at, carried_at, programme_of}
 use Rattle.and_events.specs.Legal.{Legal, Decides, Departs, Sends}
 use Rattle.and_events.specs.Run.{Run}
-use Rattle.and_events.specs.Sound.{IsSound, IsBuilt}
+use Rattle.and_events.specs.Sound.{IsSound}
+use Rattle.and_built.specs.Built.{IsBuilt}
 use Rattle.and_laws.proofs.Offloading.{right_orders}
 use Rattle.and_kept.specs.Settling.{departs_end, departure_of, LeadsRouted, LeadsLeaving}
 use Rattle.and_book.specs.Settling.{leaving_said, egress_event}

@@ -26,19 +26,20 @@ use Rattle.and_events.specs.State.{State, installed_of, programme_of}
 use Rattle.and_events.specs.Legal.{CanAnnounce, CanInstall, CanTake, HasHand}
 use Rattle.and_events.specs.Places.{Handles}
 use Rattle.and_kept.specs.Moves.{source_in}
+use Rattle.and_pins.specs.declared.pin.Pin.{Pin}
 use Rattle.and_book.specs.Enabling.{Acts}
 use Rattle.and_book.proofs.Taking.{takes_from}
 
 -- whoever takes packets acts where it is busy
-pub acts_as : (v : Settings) (packets : List Packet) (p : Programmes) (m : NodeHolds) (f : Flow) (due : Option Step) (a : Actor) (b : Bool) → Handles a → (IsTrue b ↔ IsBusy v f m.forward a)
-    → IsTrue b ↔ Acts v packets p m f due a
-acts_as v packets p m f due (Worker h w) b t is = is
-acts_as v packets p m f due (Coproc h) b t is = is
-acts_as v packets p m f due (Gateway g) b t is = is
-acts_as v packets p m f due (HostInstall h) b t is = absurd t
-acts_as v packets p m f due (GateInstall g) b t is = absurd t
-acts_as v packets p m f due Controller b t is = absurd t
-acts_as v packets p m f due Driver b t is = absurd t
+pub acts_as : (v : Settings) (packets : List Packet) (p : Programmes) (m : NodeHolds) (pins : List Pin) (f : Flow) (due : Option Step) (a : Actor) (b : Bool) → Handles a → (IsTrue b ↔ IsBusy v f m.forward a)
+    → IsTrue b ↔ Acts v packets p m pins f due a
+acts_as v packets p m pins f due (Worker h w) b t is = is
+acts_as v packets p m pins f due (Coproc h) b t is = is
+acts_as v packets p m pins f due (Gateway g) b t is = is
+acts_as v packets p m pins f due (HostInstall h) b t is = absurd t
+acts_as v packets p m pins f due (GateInstall g) b t is = absurd t
+acts_as v packets p m pins f due Controller b t is = absurd t
+acts_as v packets p m pins f due Driver b t is = absurd t
 
 -- ---- the queue from which an actor takes
 

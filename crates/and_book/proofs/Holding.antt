@@ -22,6 +22,7 @@ use Rattle.and_kept.specs.Lanes.{Roads}
 use Rattle.and_kept.specs.Nodes.{Progressed}
 use Rattle.and_book.specs.Inside.{Kept, Stands, HasParcels, holds_of}
 use Rattle.and_book.proofs.More.{IsAfter}
+use Rattle.and_book.proofs.Pinning.{pins_stay}
 
 -- the node of a step that holds or frees is there
 pub hold_there : (plan : Plan) (h : List Event) (node : Node) (what : What) → IsSound plan → slice_get plan.steps (state plan h).next ≡ Some (steps.Hold node what) → IsNode plan.settings node
@@ -74,6 +75,7 @@ after_hold plan s k p t n node what st settings due is =
       limit = ap (λ (x : Progressed). x.limit) is.installs;
       room = omega arith;
       known = refl;
+      pins = pins_stay plan k (record k { next = k.next + 1; progress = p; roads = t }) refl refl (ap (λ (x : Progressed). x.least) is.installs) (omega arith);
     }
 
 pub after_free : (plan : Plan) (s : State) (k : Kept) (p : Progressed) (t : Roads) (n : ℕ) (node : Node) (what : What) → Stands k s → k.roads.settings ≡ plan.settings → slice_get plan.steps n ≡ Some (steps.Free node what)
@@ -93,6 +95,7 @@ after_free plan s k p t n node what st settings due is =
       limit = ap (λ (x : Progressed). x.limit) is.installs;
       room = omega arith;
       known = refl;
+      pins = pins_stay plan k (record k { next = k.next + 1; progress = p; roads = t }) refl refl (ap (λ (x : Progressed). x.least) is.installs) (omega arith);
     }
 
 -- the parcels stay where they are

@@ -24,7 +24,8 @@ use Rattle.and_events.specs.Places.{node_of, IsNode}
 use Rattle.and_events.specs.State.{State, state, programme_of}
 use Rattle.and_events.specs.Legal.{entries_at}
 use Rattle.and_events.specs.Run.{Run}
-use Rattle.and_events.specs.Sound.{IsSound, IsBuilt}
+use Rattle.and_events.specs.Sound.{IsSound}
+use Rattle.and_built.specs.Built.{IsBuilt}
 use Rattle.and_laws.proofs.Programmed.{programmed}
 use Rattle.and_kept.specs.Settling.{LeadsRouted, LeadsLocated, LeadsGate}
 use Rattle.and_book.specs.Settling.{IsGateDecision}
@@ -36,8 +37,8 @@ host_known : (plan : Plan) (e : Entry) (vm host : ℕ) → IsKnown plan e → ho
 host_known plan (entry_kinds.AddVm v net mac ip h) vm host known is = grind (arith, known.2)
 host_known plan (entry_kinds.AddNet net) vm host known is = absurd (cc)
 host_known plan (entry_kinds.AddRule net rule) vm host known is = absurd (cc)
-host_known plan (entry_kinds.RemoveVm v) vm host known is = absurd known
-host_known plan (entry_kinds.Place v h) vm host known is = absurd known
+host_known plan (entry_kinds.RemoveVm v) vm host known is = absurd (cc)
+host_known plan (entry_kinds.Place v h) vm host known is = grind (arith, known)
 host_known plan (entry_kinds.DelRule net number) vm host known is = absurd (cc)
 host_known plan (entry_kinds.AddRoute net r) vm host known is = absurd (cc)
 host_known plan (entry_kinds.DelRoute net number) vm host known is = absurd (cc)
@@ -72,8 +73,8 @@ fits_entry plan (entry_kinds.AddVm v net mac ip h) later known fit =
     ]
 fits_entry plan (entry_kinds.AddNet net) later known fit = fit
 fits_entry plan (entry_kinds.AddRule net rule) later known fit = fit
-fits_entry plan (entry_kinds.RemoveVm v) later known fit = absurd known
-fits_entry plan (entry_kinds.Place v h) later known fit = absurd known
+fits_entry plan (entry_kinds.RemoveVm v) later known fit = fit
+fits_entry plan (entry_kinds.Place v h) later known fit = fit
 fits_entry plan (entry_kinds.DelRule net number) later known fit = fit
 fits_entry plan (entry_kinds.AddRoute net r) later known fit = fit
 fits_entry plan (entry_kinds.DelRoute net number) later known fit = fit

@@ -3,12 +3,13 @@ pub mod More
 pub mod Stepping
 pub mod Taking
 pub mod Known
+pub mod Pinning
+pub mod Moved
 pub mod Ends
 pub mod Injecting
 pub mod Leading
 pub mod Open
 pub mod Settled
-pub mod PlainPorts
 pub mod Arriving
 pub mod Unsent
 pub mod Departing
@@ -18,6 +19,7 @@ pub mod FromHand
 pub mod Settling
 pub mod Enabled
 pub mod Resting
+pub mod Ripe
 pub mod Holding
 pub mod Numbered
 pub mod Due

@@ -14,12 +14,14 @@ use Rattle.and_events.specs.Legal.{Enabled}
 use Rattle.and_events.specs.Ordered.{IsFirst}
 use Rattle.and_events.specs.Places.{node_count, hand_count, actor_number, actor_count, IsActor}
 use Rattle.and_events.specs.Run.{Run}
-use Rattle.and_events.specs.Sound.{IsSound, IsBuilt}
+use Rattle.and_events.specs.Sound.{IsSound}
 use Rattle.and_events.specs.State.{State, state}
 use Rattle.and_laws.proofs.Actors.{hand_number, same_actor}
 use Rattle.and_laws.proofs.Enabling.{hand_of}
 use Rattle.and_kept.specs.Numbers.{count_below, one_if}
 use Rattle.and_kept.proofs.NumbersLemmas.{count_suc, count_grows}
+use Rattle.and_pins.specs.declared.pin.Pin.{Pin}
+use Rattle.and_pins.specs.Pinned.{ArePins}
 use Rattle.and_book.specs.Views.{AreEnabled, Ascend, NoneEnabled}
 use Rattle.and_book.proofs.Due.{acts_now, enabled_at, not_enabled_at}
 use Rattle.and_book.proofs.Numbered.{number_below}
@@ -124,12 +126,12 @@ only_list plan s xs ys are are' =
 
 -- ---- the list
 
-module _ (plan : Plan) (h : List Event) (sound : IsSound plan) (built : IsBuilt plan) (r : Run plan h) (driver : Bool) (drives : IsTrue driver ↔ Enabled plan (state plan h) Driver) where
+module _ (plan : Plan) (h : List Event) (sound : IsSound plan) (r : Run plan h) (pins : List Pin) (are : ArePins pins (state plan h).ports) (controller driver : Bool) (unpins : IsTrue controller ↔ Enabled plan (state plan h) Controller) (drives : IsTrue driver ↔ Enabled plan (state plan h) Driver) where
   abbrev number : Actor → ℕ
   number a = actor_number plan.settings a
 
   abbrev acts : ℕ → Bool
-  acts = acts_now plan h sound built r driver
+  acts = acts_now plan h sound r controller driver
 
   -- how many act below a number
   abbrev many : ℕ → ℕ
@@ -162,7 +164,7 @@ module _ (plan : Plan) (h : List Event) (sound : IsSound plan) (built : IsBuilt 
   unfolding Ascend
   one_more m w here more =
       let one : many (m + 1) ≡ many m + 1 = omega (arith, count_suc acts m, ap one_if here) in
-      let first : IsOne w.actor = (w.is, enabled_at plan h sound built r driver drives w.actor w.is (ap acts w.number ∙ here)) in
+      let first : IsOne w.actor = (w.is, enabled_at plan h sound r pins are controller driver unpins drives w.actor w.is (ap acts w.number ∙ here)) in
       record {
         actors = w.actor ∷ more.actors;
         each = All-cons IsOne w.actor more.actors first more.each;
@@ -192,7 +194,7 @@ module _ (plan : Plan) (h : List Event) (sound : IsSound plan) (built : IsBuilt 
         places = λ a is enabled le. ⊎_elim
             (λ (at : number a < m + 1).
             let same : number a ≡ m = omega (arith, at, le) in
-            absurd (not_enabled_at plan h sound built r driver drives a is (ap acts same ∙ here) enabled))
+            absurd (not_enabled_at plan h sound r pins are controller driver unpins drives a is (ap acts same ∙ here) enabled))
             (λ (later : m + 1 ≤ number a).
             let index : many (number a) - many m ≡ many (number a) - many (m + 1) = omega (arith, none) in
             rw index (more.places a is enabled later))
@@ -239,7 +241,7 @@ module _ (plan : Plan) (h : List Event) (sound : IsSound plan) (built : IsBuilt 
   place_listed k a is act e = (
     whole.actors,
     are_enabled,
-    sym (subst (λ n. slice_get whole.actors n ≡ Some a) e (place_of a is (enabled_at plan h sound built r driver drives a is act))),
+    sym (subst (λ n. slice_get whole.actors n ≡ Some a) e (place_of a is (enabled_at plan h sound r pins are controller driver unpins drives a is act))),
   )
 
   pub past_listed : (k : ℕ) → many (actor_count plan.settings) ≤ k → (actors : List Actor) × AreEnabled plan (state plan h) actors × (None ≡ slice_get actors k)

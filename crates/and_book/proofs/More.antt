@@ -9,7 +9,8 @@ use Rattle.std.proofs.lemmas.List.Elements.{All-push, All-nil}
 use Rattle.std.proofs.lemmas.List.Folds.{sum_by-replicate}
 use Rattle.and_policy.specs.declared.port.Port.TheVariants.{Absent}
 use Rattle.and_events.specs.declared.event.Held.{Held}
-use Rattle.and_events.specs.Sound.{IsSound, IsBuilt}
+use Rattle.and_events.specs.Sound.{IsSound}
+use Rattle.and_built.specs.Built.{IsBuilt}
 use Rattle.and_kept.specs.Lanes.{unsent}
 use Rattle.and_events.specs.declared.event.Event.{Event}
 use Rattle.and_events.specs.declared.event.Line.{Line}
@@ -25,7 +26,7 @@ use Rattle.and_laws.proofs.Sizes.{sizes, nodes as nodes_of}
 use Rattle.and_review.specs.Views.{Begins}
 use Rattle.and_book.specs.declared.book.Book.TheInside.{Inside}
 use Rattle.and_book.specs.Views.{BookView, held}
-use Rattle.and_book.specs.Inside.{Kept, kept_of, view_of, Stands, IsSized, HasReviews, HasParcels, Keeps, IsBook}
+use Rattle.and_book.specs.Inside.{Kept, kept_of, view_of, Stands, IsSized, HasPins, HasReviews, HasParcels, Keeps, IsBook}
 
 past_push : (lines : List Line) (l : Line) → past (lines ++ l ∷ []) ≡ l.event ∷ past lines
 past_push lines l = fold-append (λ h x. x.event ∷ h) [] lines (l ∷ [])
@@ -45,6 +46,7 @@ pub record IsAfter (plan : Plan) (s : State) (e : Event) (k k' : Kept) : Type 0 
   pub limit : k'.progress.limit ≡ k.progress.limit
   pub room : k.reviews.room ≤ k'.reviews.room
   pub known : k'.reviews.known ≡ k.reviews.known
+  pub pins : HasPins plan k → HasPins plan k'
 
 -- the log grows at its end
 log_grows : (p : Programmes) (w : Word) → Begins p.log (programmes_after p w).log
@@ -93,6 +95,7 @@ keeps_more plan threads lines lines' k k' spare spare' seat e keeps legal seated
         room = omega (arith, keeps.reviews.room, follows.room);
         known = known_after plan (state plan (past lines)) e k k' keeps.stands follows keeps.reviews.known;
       };
+      pins = follows.pins keeps.pins;
     }
 
 -- a book that is not prepared owes no orders
@@ -141,8 +144,8 @@ pub keeps_start : (plan : Plan) (threads : ℕ) (lines : List Line) (k : Kept) (
     → k.progress.programmes ≡ record { log = []; ops = replicate nodes []; announced = replicate nodes 0; installed = replicate nodes 0 }
     → k.ports ≡ replicate vms (replicate plan.settings.hosts Absent)
     → k.roads.flow ≡ record { queues = replicate (queue_count plan.settings) []; hands = replicate (hand_count plan.settings) None; carried = replicate packets (unsent plan.settings) }
-    → k.progress.held ≡ replicate nodes false → k.roads.held ≡ replicate (node_count plan.settings) false → k.reviews.used ≡ [] → IsSized plan k → HasParcels plan [] k.roads → HasReviews plan k → Keeps plan threads lines k spare
-keeps_start plan threads lines k spare vms nodes packets sound built none zero n v p programmes ports flow installs forwards used sized parcels reviews =
+    → k.progress.held ≡ replicate nodes false → k.roads.held ≡ replicate (node_count plan.settings) false → k.reviews.used ≡ [] → IsSized plan k → HasParcels plan [] k.roads → HasReviews plan k → HasPins plan k → Keeps plan threads lines k spare
+keeps_start plan threads lines k spare vms nodes packets sound built none zero n v p programmes ports flow installs forwards used sized parcels reviews pins =
     let st : Stands k (state plan []) = subst (Stands k) (start_is plan) (stands_start plan k vms nodes packets zero n v p programmes ports flow installs forwards used) in
     subst (λ ls. Keeps plan threads ls k spare) (sym none)
     (record {
@@ -158,4 +161,5 @@ keeps_start plan threads lines k spare vms nodes packets sound built none zero n
       sizes = subst (HasSizes plan) (sym st.flow) (sizes plan []);
       nodes = subst (HasNodes plan) (sym st.programmes) (nodes_of plan []);
       reviews = reviews;
+      pins = pins;
     })

@@ -38,8 +38,8 @@ rules_more plan (entry_kinds.AddRule n rule) later net known all =
     ]
 rules_more plan (entry_kinds.AddNet n) later net known all = all
 rules_more plan (entry_kinds.AddVm v n mac ip h) later net known all = all
-rules_more plan (entry_kinds.RemoveVm v) later net known all = absurd known
-rules_more plan (entry_kinds.Place v h) later net known all = absurd known
+rules_more plan (entry_kinds.RemoveVm v) later net known all = all
+rules_more plan (entry_kinds.Place v h) later net known all = all
 rules_more plan (entry_kinds.DelRule n number) later net known all = all
 rules_more plan (entry_kinds.AddRoute n r) later net known all = all
 rules_more plan (entry_kinds.DelRoute n number) later net known all = all

@@ -15,7 +15,7 @@ use Rattle.and_parcel.specs.Parcels.{ParcelView, wire_of}
 use Rattle.and_events.specs.declared.event.Actor.{Actor}
 use Rattle.and_events.specs.declared.event.Endpoint.{Endpoint}
 use Rattle.and_events.specs.declared.event.Event.{Event}
-use Rattle.and_events.specs.declared.event.Event.TheVariants.{Append, Review, Hold, Free, Inject, Wait, Finish, Announce, Installed, Take}
+use Rattle.and_events.specs.declared.event.Event.TheVariants.{Append, Review, Hold, Free, Inject, Wait, Blackout, Resume, Finish, Announce, Installed, Take, Unpin}
 use Rattle.and_events.specs.declared.event.Held.{Held}
 use Rattle.and_events.specs.declared.event.Node.{Node}
 use Rattle.and_events.specs.declared.event.Node.TheVariants.{Host, Gate}
@@ -29,7 +29,8 @@ use Rattle.and_events.specs.OuterPackets.{Sent, sent_by_move, with_sent, sends_o
 use Rattle.and_events.specs.State.{State, state, move_of, tuple_at, frame_at, carried_at}
 use Rattle.and_events.specs.Legal.{Legal}
 use Rattle.and_events.specs.Run.{Run, sends}
-use Rattle.and_events.specs.Sound.{IsSound, IsBuilt}
+use Rattle.and_events.specs.Sound.{IsSound}
+use Rattle.and_built.specs.Built.{IsBuilt}
 use Rattle.and_laws.specs.Stages.{count_in}
 use Rattle.and_laws.proofs.Fates.{each_has_one}
 use Rattle.and_laws.proofs.Injected.{injected_once}
@@ -392,9 +393,12 @@ MovesNone (Review n) = Unit {0}
 MovesNone (Hold n) = Unit {0}
 MovesNone (Free n) = Unit {0}
 MovesNone (Wait n) = Unit {0}
+MovesNone (Blackout n) = Unit {0}
+MovesNone (Resume n) = Unit {0}
 MovesNone (Finish n) = Unit {0}
 MovesNone (Announce node upto) = Unit {0}
 MovesNone (Installed node upto) = Unit {0}
+MovesNone (Unpin host vm) = Unit {0}
 MovesNone _ = ⊥
 
 stays : (plan : Plan) (s : State) (e : Event) → MovesNone e → move_of plan s e ≡ Stay
@@ -404,9 +408,12 @@ stays plan s (Review n) t = refl
 stays plan s (Hold n) t = refl
 stays plan s (Free n) t = refl
 stays plan s (Wait n) t = refl
+stays plan s (Blackout n) t = refl
+stays plan s (Resume n) t = refl
 stays plan s (Finish n) t = refl
 stays plan s (Announce node upto) t = refl
 stays plan s (Installed node upto) t = refl
+stays plan s (Unpin host vm) t = refl
 stays plan s e t = absurd t
 
 pub still : (plan : Plan) (h : List Event) (e : Event) (roads : Roads) → MovesNone e → HasParcels plan h roads → HasParcels plan (e ∷ h) roads

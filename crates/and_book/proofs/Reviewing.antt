@@ -29,6 +29,7 @@ use Rattle.and_review.specs.Views.{ReviewsView}
 use Rattle.and_book.specs.Inside.{Kept, Keeps, Stands}
 use Rattle.and_book.proofs.Logged.{logged}
 use Rattle.and_book.proofs.More.{IsAfter}
+use Rattle.and_book.proofs.Pinning.{pins_stay}
 use Rattle.and_book.proofs.Plans.{log_short}
 use Rattle.and_book.proofs.Stepping.{steps_due}
 use Rattle.and_book.proofs.Using.{orders_for_hosts}
@@ -86,11 +87,11 @@ unfolding Legal
 legal_review plan s n is due = steps_due plan s n steps.Review is due tt
 
 pub after_review : (plan : Plan) (s : State) (k : Kept) (p : Progressed) (reviews : ReviewsView) (n : ℕ) (os : List Given) → Stands k s → slice_get plan.steps n ≡ Some steps.Review
-    → os ≡ orders_of plan.settings k.progress.programmes.log k.reviews.used → p.programmes ≡ programmes_after k.progress.programmes (Orders os) → p.limit ≡ k.progress.limit → p.held ≡ k.progress.held
+    → os ≡ orders_of plan.settings k.progress.programmes.log k.reviews.used → p.programmes ≡ programmes_after k.progress.programmes (Orders os) → p.limit ≡ k.progress.limit → p.held ≡ k.progress.held → p.least ≡ k.progress.least
     → reviews.used ≡ usage_after k.reviews.used Cleared → k.reviews.room ≤ reviews.room → reviews.known ≡ k.reviews.known
     → IsAfter plan s (Review n) k (record k { next = k.next + 1; progress = p; reviews = reviews })
 unfolding after holds_after move_of word_of ports_move_of step_of usage_move_of flow_after ports_after
-after_review plan s k p reviews n os st due are given limit marks used room known =
+after_review plan s k p reviews n os st due are given limit marks least used room known =
     record {
       stands = record {
         next = ap (λ m. m + 1) st.next;
@@ -108,4 +109,5 @@ after_review plan s k p reviews n os st due are given limit marks used room know
       limit = limit;
       room = room;
       known = known;
+      pins = pins_stay plan k (record k { next = k.next + 1; progress = p; reviews = reviews }) refl refl least (omega arith);
     }

@@ -24,6 +24,7 @@ use Rattle.and_book.specs.Inside.{Kept, Keeps}
 use Rattle.and_book.specs.Views.{IsPacket}
 use Rattle.and_book.proofs.More.{keeps_more}
 use Rattle.and_book.proofs.Outgoing.{IsOf, settles}
+use Rattle.and_book.proofs.Pinning.{pins_stay}
 use Rattle.and_book.proofs.FromHand.{IsFrom, IsUsed, Settles, lets_go, stands_settled}
 
 of_from : (hand i : ℕ) (m : Move) → IsFrom hand i m → IsOf i m
@@ -85,6 +86,7 @@ module _ (plan : Plan) (threads : ℕ) (lines : List Line) (k : Kept) (spare : �
         limit = refl;
         room = using.room;
         known = using.known;
+        pins = pins_stay plan k (record k { roads = roads'; reviews = reviews' }) refl refl refl (omega arith);
       })
       (settles plan (past lines) e a need q p (node_of from.actor) from.tuple m k.roads roads' keeps.sound keeps.built keeps.run legal ok has keeps.stands.flow node
       (ap (λ (f : Holder). f.tuple) is) move (of_from (hand_place plan.settings a) p.packet m by) refl refl keeps.parcels)

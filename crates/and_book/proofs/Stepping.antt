@@ -22,8 +22,10 @@ use Rattle.and_events.specs.Usage.{usage_after}
 use Rattle.and_events.specs.Legal.{Legal, CanAnnounce, CanInstall, CanStep, Steps, IsAtRest, IsOver, KnowsVm, EndsAt, inject_end}
 use Rattle.and_laws.specs.Fates.{in_hand_count}
 use Rattle.and_kept.specs.Nodes.{Progressed}
-use Rattle.and_book.specs.Inside.{Kept, Stands}
+use Rattle.and_pins.specs.Pinned.{PinsView}
+use Rattle.and_book.specs.Inside.{Kept, PinsFollow, Stands}
 use Rattle.and_book.proofs.More.{IsAfter}
+use Rattle.and_book.proofs.Pinning.{pins_follow, pins_ripen, pins_stay}
 
 pub legal_announce : (plan : Plan) (s : State) (node : Node) (upto : ℕ) → CanAnnounce plan s node → upto ≡ length (programme_of plan s node) → Legal plan s (Announce node upto)
 unfolding Legal
@@ -33,26 +35,28 @@ pub legal_installed : (plan : Plan) (s : State) (node : Node) (upto : ℕ) → C
 unfolding Legal
 legal_installed plan s node upto can is = (can, is)
 
-pub after_announce : (plan : Plan) (s : State) (k : Kept) (p : Progressed) (node : Node) (place upto : ℕ) → Stands k s → place ≡ node_place plan.settings node → p.programmes ≡ programmes_after k.progress.programmes (Announces place upto) → p.limit ≡ k.progress.limit → p.held ≡ k.progress.held → IsAfter plan s (Announce node upto) k (record k { progress = p })
+pub after_announce : (plan : Plan) (s : State) (k : Kept) (p : Progressed) (node : Node) (place upto : ℕ) → Stands k s → place ≡ node_place plan.settings node → p.programmes ≡ programmes_after k.progress.programmes (Announces place upto) → p.limit ≡ k.progress.limit → p.held ≡ k.progress.held → p.least ≡ k.progress.least → IsAfter plan s (Announce node upto) k (record k { progress = p })
 unfolding after holds_after move_of word_of ports_move_of step_of usage_move_of usage_after flow_after ports_after
-after_announce plan s k p node place upto st there is limit marks =
+after_announce plan s k p node place upto st there is limit marks least =
     record {
       stands = record { next = st.next; programmes = is ∙ (ap (λ q. programmes_after q (Announces place upto)) st.programmes ∙ ap (λ n. programmes_after s.programmes (Announces n upto)) there); ports = st.ports; flow = st.flow; holds = ap (λ marks. record { install = marks; forward = k.roads.held }) marks ∙ st.holds; usage = st.usage };
       settings = refl;
       limit = limit;
       room = omega arith;
       known = refl;
+      pins = pins_stay plan k (record k { progress = p }) refl refl least (omega arith);
     }
 
-pub after_installed : (plan : Plan) (s : State) (k : Kept) (p : Progressed) (node : Node) (place upto : ℕ) → Stands k s → place ≡ node_place plan.settings node → p.programmes ≡ programmes_after k.progress.programmes (Installs place upto) → p.limit ≡ k.progress.limit → p.held ≡ k.progress.held → IsAfter plan s (Installed node upto) k (record k { progress = p })
+pub after_installed : (plan : Plan) (s : State) (k : Kept) (p : Progressed) (pins : PinsView) (node : Node) (place upto : ℕ) → Stands k s → place ≡ node_place plan.settings node → p.programmes ≡ programmes_after k.progress.programmes (Installs place upto) → p.limit ≡ k.progress.limit → p.held ≡ k.progress.held → pins ≡ record k.pins { least = p.least } → IsAfter plan s (Installed node upto) k (record k { progress = p; pins = pins })
 unfolding after holds_after move_of word_of ports_move_of step_of usage_move_of usage_after flow_after ports_after
-after_installed plan s k p node place upto st there is limit marks =
+after_installed plan s k p pins node place upto st there is limit marks ripened =
     record {
       stands = record { next = st.next; programmes = is ∙ (ap (λ q. programmes_after q (Installs place upto)) st.programmes ∙ ap (λ n. programmes_after s.programmes (Installs n upto)) there); ports = st.ports; flow = st.flow; holds = ap (λ marks. record { install = marks; forward = k.roads.held }) marks ∙ st.holds; usage = st.usage };
       settings = refl;
       limit = limit;
       room = omega arith;
       known = refl;
+      pins = pins_ripen plan k p pins ripened;
     }
 
 -- the length of the programme, and what is announced, as they are kept
@@ -78,20 +82,21 @@ legal_finish plan s n is due can = steps_due plan s n steps.Finish is due can
 pub after_wait : (plan : Plan) (s : State) (k : Kept) (n : ℕ) → Stands k s → IsAfter plan s (Wait n) k (record k { next = k.next + 1 })
 unfolding after holds_after move_of word_of ports_move_of step_of usage_move_of usage_after flow_after ports_after programmes_after
 after_wait plan s k n st =
-    record { stands = record { next = ap (λ m. m + 1) st.next; programmes = st.programmes; ports = st.ports; flow = st.flow; holds = st.holds; usage = st.usage }; settings = refl; limit = refl; room = omega arith; known = refl }
+    record { stands = record { next = ap (λ m. m + 1) st.next; programmes = st.programmes; ports = st.ports; flow = st.flow; holds = st.holds; usage = st.usage }; settings = refl; limit = refl; room = omega arith; known = refl; pins = pins_stay plan k (record k { next = k.next + 1 }) refl refl refl (omega arith) }
 
 pub after_finish : (plan : Plan) (s : State) (k : Kept) (n : ℕ) → Stands k s → IsAfter plan s (Finish n) k (record k { next = k.next + 1 })
 unfolding after holds_after move_of word_of ports_move_of step_of usage_move_of usage_after flow_after ports_after programmes_after
 after_finish plan s k n st =
-    record { stands = record { next = ap (λ m. m + 1) st.next; programmes = st.programmes; ports = st.ports; flow = st.flow; holds = st.holds; usage = st.usage }; settings = refl; limit = refl; room = omega arith; known = refl }
+    record { stands = record { next = ap (λ m. m + 1) st.next; programmes = st.programmes; ports = st.ports; flow = st.flow; holds = st.holds; usage = st.usage }; settings = refl; limit = refl; room = omega arith; known = refl; pins = pins_stay plan k (record k { next = k.next + 1 }) refl refl refl (omega arith) }
 
 pub legal_append : (plan : Plan) (s : State) (n : ℕ) (e : Entry) → n ≡ s.next → slice_get plan.steps n ≡ Some (steps.Append e) → Legal plan s (Append n)
 unfolding Legal
 legal_append plan s n e is due = (e, (is, due, tt))
 
-pub after_append : (plan : Plan) (s : State) (k : Kept) (p : Progressed) (ports : List (List Port)) (n : ℕ) (e : Entry) → Stands k s → slice_get plan.steps n ≡ Some (steps.Append e) → p.programmes ≡ programmes_after k.progress.programmes (Logs e) → ports ≡ ports_after k.ports (ports_move_of_entry e) → p.limit ≡ k.progress.limit → p.held ≡ k.progress.held → IsAfter plan s (Append n) k (record k { next = k.next + 1; progress = p; ports = ports })
+pub after_append : (plan : Plan) (s : State) (k : Kept) (p : Progressed) (ports : List (List Port)) (pins : PinsView) (n : ℕ) (e : Entry) → Stands k s → slice_get plan.steps n ≡ Some (steps.Append e) → p.programmes ≡ programmes_after k.progress.programmes (Logs e) → ports ≡ ports_after k.ports (ports_move_of_entry e) → PinsFollow k.pins pins k.ports ports 0 → p.limit ≡ k.progress.limit → p.held ≡ k.progress.held → p.least ≡ k.progress.least
+    → IsAfter plan s (Append n) k (record k { next = k.next + 1; progress = p; ports = ports; pins = pins })
 unfolding after holds_after move_of word_of ports_move_of step_of usage_move_of usage_after flow_after
-after_append plan s k p ports n e st due logged moved limit marks =
+after_append plan s k p ports pins n e st due logged moved follows limit marks least =
     record {
       stands = record {
         next = ap (λ m. m + 1) st.next;
@@ -105,6 +110,7 @@ after_append plan s k p ports n e st due logged moved limit marks =
       limit = limit;
       room = omega arith;
       known = refl;
+      pins = pins_follow plan k (record k { next = k.next + 1; progress = p; ports = ports; pins = pins }) 0 follows least (omega arith);
     }
 
 pub legal_inject : (plan : Plan) (s : State) (n i : ℕ) (full : Bool) → n ≡ s.next → slice_get plan.steps s.next ≡ Some (steps.Inject i) → KnowsVm plan s (home plan s i) (packet_at plan i).vm → EndsAt plan s (queue_place plan.settings (Host (home plan s i)) Out) (inject_end full) → Legal plan s (Inject n i full)
@@ -128,6 +134,7 @@ after_inject plan s k n host p full st settings there =
       limit = refl;
       room = omega arith;
       known = refl;
+      pins = pins_stay plan k (record k { next = k.next + 1; roads = entered k.roads host p full }) refl refl refl (omega arith);
     }
 
 -- a packet that comes from outside is in no hand

@@ -34,6 +34,7 @@ use Rattle.and_events.specs.Places.{Handles}
 use Rattle.and_kept.specs.Moves.{source_in}
 use Rattle.and_book.specs.Inside.{Kept, Stands}
 use Rattle.and_book.proofs.More.{IsAfter}
+use Rattle.and_book.proofs.Pinning.{pins_stay}
 
 first : (xs : List ℕ) (i : ℕ) → slice_get xs 0 ≡ Some i → (rest : List ℕ) × (xs ≡ i ∷ rest)
 first [] i e = absurd (cc)
@@ -84,6 +85,7 @@ after_take plan s k a held st settings need =
       limit = refl;
       room = omega arith;
       known = refl;
+      pins = pins_stay plan k (record k { roads = taken k.roads a held }) refl refl refl (omega arith);
     }
 
 -- one more hand is full

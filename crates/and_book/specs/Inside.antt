@@ -1,6 +1,8 @@
 -- How a book's fields stand for the state after its lines.
-use Rattle.std.specs.Prelude.{◌≡◌, ℕ, ◌-◌, ◌<◌, ◌≤◌, true, List, length, map, vec_len, vec_capacity}
+use Rattle.std.specs.Prelude.{◌≡◌, ℕ, ◌+◌, ◌-◌, ◌<◌, ◌≤◌, true, List, length, map, None, vec_len, vec_capacity}
 use Rattle.std.specs.List.{All}
+use Rattle.and_policy.specs.declared.entry.Entry.{Entry}
+use Rattle.and_policy.specs.declared.entry.Entry.TheVariants as entries
 use Rattle.and_policy.specs.declared.port.Port.{Port}
 use Rattle.and_events.specs.declared.event.Event.{Event}
 use Rattle.and_events.specs.declared.event.Given.{Given}
@@ -9,14 +11,17 @@ use Rattle.and_events.specs.declared.event.Node.{Node}
 use Rattle.and_events.specs.declared.event.Queue.TheVariants.{Wire}
 use Rattle.and_events.specs.declared.plan.Plan.{Plan}
 use Rattle.and_events.specs.Places.{queue_place, seat_of, actor_of, IsNode}
+use Rattle.and_events.specs.Ports.{port_at}
 use Rattle.and_events.specs.State.{State, NodeHolds, state}
 use Rattle.and_events.specs.Run.{Run, past}
-use Rattle.and_events.specs.Sound.{IsSound, IsBuilt}
+use Rattle.and_events.specs.Sound.{IsSound}
+use Rattle.and_built.specs.Built.{IsBuilt}
 use Rattle.and_events.specs.Usage.{orders_of}
 use Rattle.and_laws.specs.Fates.{in_hand_count}
 use Rattle.and_laws.specs.Sizes.{HasSizes, HasNodes}
 use Rattle.and_kept.specs.Lanes.{Roads, parcels_at}
 use Rattle.and_kept.specs.Nodes.{Progressed, HasOrderRoom}
+use Rattle.and_pins.specs.Pinned.{PinsView, ArePins, hairpin_entry}
 use Rattle.and_review.specs.Views.{ReviewsView, Begins}
 use Rattle.and_book.specs.declared.book.Book.TheInside.{Inside}
 use Rattle.and_book.specs.Views.{BookView, IsPacket}
@@ -28,11 +33,12 @@ pub record Kept : Type 0 where
   pub next : ℕ
   pub progress : Progressed
   pub ports : List (List Port)
+  pub pins : PinsView
   pub roads : Roads
   pub reviews : ReviewsView
 
 abbrev pub kept_of : Inside → Kept
-kept_of b = record { next = b.next; progress = b.progress; ports = b.ports; roads = b.traffic; reviews = b.reviews }
+kept_of b = record { next = b.next; progress = b.progress; ports = b.ports; pins = b.pins; roads = b.traffic; reviews = b.reviews }
 
 -- what is held at the nodes
 abbrev pub holds_of : Kept → NodeHolds
@@ -60,6 +66,25 @@ pub record HasReviews (plan : Plan) (k : Kept) : Type 0 where
   pub room : length plan.steps < k.reviews.room
   pub known : Begins k.reviews.known k.progress.programmes.log
 
+-- the hairpins are those of the ports, kept with the number of entries that every node has installed; there is room for one more at each step
+-- that is still to come
+pub record HasPins (plan : Plan) (k : Kept) : Type 0 where
+  pub standing : ArePins k.pins.pins k.ports
+  pub least : k.pins.least ≡ k.progress.least
+  pub room : length k.pins.pins + (length plan.steps - k.next) ≤ k.pins.room
+
+-- hairpins that are those of the ports before are those of the ports after, and there are at most so many more
+pub record PinsFollow (old new : PinsView) (ports ports' : List (List Port)) (more : ℕ) : Type 0 where
+  pub standing : ArePins old.pins ports → ArePins new.pins ports'
+  pub few : length new.pins ≤ length old.pins + more
+  pub least : new.least ≡ old.least
+  pub room : old.room ≤ new.room
+
+-- a VM that the entry adds has no hairpin where it boots
+abbrev pub BootsAnew : List (List Port) → Entry → Type 0
+BootsAnew ports (entries.AddVm vm net mac ip host) = hairpin_entry (port_at ports host vm) ≡ None
+BootsAnew ports _ = Unit {0}
+
 -- each parcel in a queue has its packet's frame, the queues' packets are those of the parcels, and what came to a node by its
 -- `wire` queue has the outer bytes of its packet's newest send
 pub record HasParcels (plan : Plan) (h : List Event) (roads : Roads) : Type 0 where
@@ -81,6 +106,7 @@ pub record Keeps (plan : Plan) (threads : ℕ) (lines : List Line) (k : Kept) (s
   pub sizes : HasSizes plan k.roads.flow
   pub nodes : HasNodes plan k.progress.programmes
   pub reviews : HasReviews plan k
+  pub pins : HasPins plan k
 
 -- the orders are those of a review of the usage so far, and have room
 pub record AreDue (plan : Plan) (k : Kept) (orders : List Given) : Type 0 where

@@ -86,6 +86,15 @@ abbrev pub IsFree : Option Step → Type 0
 IsFree (Some (steps.Free node what)) = Unit {0}
 IsFree _ = ⊥
 
+-- the step stops a VM at its host; the step lets it go on at another
+abbrev pub IsBlackout : Option Step → Type 0
+IsBlackout (Some (steps.Blackout vm host)) = Unit {0}
+IsBlackout _ = ⊥
+
+abbrev pub IsResume : Option Step → Type 0
+IsResume (Some (steps.Resume vm)) = Unit {0}
+IsResume _ = ⊥
+
 -- the packet finds the `out` queue of its VM's host full
 abbrev pub finds_full : Plan → State → ℕ → Bool
 finds_full plan s i =

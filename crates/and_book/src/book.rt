@@ -4,13 +4,15 @@ ghost use Rattle.std.specs.Prelude.{◌≡◌, ◌+◌, ◌^◌, ◌<◌, ◌≤
 ghost use Rattle.std.specs.Vec.{vec_len, vec_capacity};
 ghost use Rattle.and_events.specs.Places.{actor_of, seat_of};
 ghost use Rattle.and_events.specs.Run.{Run, past};
-ghost use Rattle.and_events.specs.Sound.{IsSound, IsBuilt};
+ghost use Rattle.and_events.specs.Sound.{IsSound};
+ghost use Rattle.and_built.specs.Built.{IsBuilt};
 ghost use Rattle.and_laws.specs.Fates.{HasOneFateOrPlace};
 ghost use Rattle.and_book.specs.Tales.{newest_first, KeepSeats};
 ghost use Rattle.and_book.specs.Views.{held};
 
 use and_events::{Event, Given, Line, Plan};
 use and_kept::{Progress, Traffic, count_hands, count_nodes};
+use and_pins::Pins;
 use and_policy::NoMemory;
 use and_ports::Ports;
 use and_review::Reviews;
@@ -29,6 +31,7 @@ pub struct Book {
     pub(crate) next: u32,
     pub(crate) progress: Progress,
     pub(crate) ports: Ports,
+    pub(crate) pins: Pins,
     pub(crate) traffic: Traffic,
     pub(crate) reviews: Reviews,
 }
@@ -79,6 +82,7 @@ impl Book {
         let nodes = count_nodes(settings) as usize;
         let progress = Progress::make(alloc, nodes, plan.log.len() as u32)?;
         let ports = Ports::make(alloc, settings.hosts, plan.names.len() as u32)?;
+        let pins = Pins::make(alloc, plan.steps.len() as u32)?;
         let reviews = Reviews::make(alloc, plan.steps.len() as u32 + 1)?;
         Ok(Book {
             plan,
@@ -89,6 +93,7 @@ impl Book {
             next: 0,
             progress,
             ports,
+            pins,
             traffic,
             reviews,
         })

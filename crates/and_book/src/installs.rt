@@ -35,6 +35,7 @@ impl Book {
     {
         let place = node_place(self.plan.settings, node);
         let upto = self.progress.install(place);
+        self.pins.ripen(self.progress.least());
         note(
             &mut self.lines,
             &mut self.prepared,

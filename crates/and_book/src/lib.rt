@@ -11,14 +11,15 @@
 //! its host's programme and takes no memory. It asks for a book that is prepared, and any event ends that, since usage and log may be
 //! other ones then.
 //!
-//! It stands on `and_laws` for what holds in every run, on `and_kept` for the parts of the state, on `and_review` for the usage and its
-//! orders, and on `and_turn`, whose lock hands a book from thread to thread.
+//! It stands on `and_laws` for what holds in every run, on `and_kept` for the parts of the state, on `and_ports` and `and_pins` for the ports of VMs
+//! and the hairpins among them, on `and_review` for the usage and its orders, and on `and_turn`, whose lock hands a book from thread to thread.
 #![tactic(auto)]
 
 mod book;
 mod enabling;
 mod installs;
 mod looks;
+mod moves;
 mod packets;
 mod reviews;
 mod steps;

@@ -1,14 +1,14 @@
 //! What a book tells of the state after its lines.
-ghost use Rattle.std.specs.Prelude.{◌≡◌, ◌<◌, ◌↔◌, List, length, IsTrue, IfSome, IfNone, slice_get};
+ghost use Rattle.std.specs.Prelude.{◌≡◌, ◌<◌, ◌↔◌, ℕ, List, length, IsTrue, IfSome, IfNone, slice_get};
 ghost use Rattle.and_events.specs.declared.event.Actor.{Actor};
-ghost use Rattle.and_events.specs.Legal.{Enabled};
+ghost use Rattle.and_events.specs.Legal.{CanUnpin, Enabled, IsRipe};
 ghost use Rattle.and_events.specs.Ordered.{IsFirst};
 ghost use Rattle.and_events.specs.Places.{IsActor, IsNode};
 ghost use Rattle.and_events.specs.State.{programme_of, announced_of, installed_of, carried_at};
 ghost use Rattle.and_book.specs.Views.{AreEnabled, NoneEnabled, now};
 
 use crate::book::Book;
-use crate::enabling::{can_act, count_acting, nth_acting};
+use crate::enabling::{Parts, can_act, count_acting, nth_acting};
 use and_events::{Actor, Carried, Node, Step, actor_at, node_place};
 use and_policy::Op;
 
@@ -33,20 +33,22 @@ impl Book {
     pub fn enabled(&self, actor: Actor) -> bool
         ensures { IsTrue result ↔ Enabled self.now.plan (now self.now) actor }
     {
-        can_act(
-            &self.plan.packets,
-            &self.progress,
-            &self.traffic,
-            self.next_step(),
-            actor,
-        )
+        let parts = Parts {
+            packets: &self.plan.packets,
+            progress: &self.progress,
+            pins: &self.pins,
+            traffic: &self.traffic,
+        };
+        can_act(&parts, self.next_step(), actor)
     }
 
     /// How many actors are enabled. It takes a few steps, however long the run is.
     pub fn enabled_count(&self) -> u32
         ensures { (actors : List Actor) × AreEnabled self.now.plan (now self.now) actors × (result ≡ length actors) }
     {
-        count_acting(&self.progress, &self.traffic, self.enabled(Actor::Driver))
+        let controller = self.enabled(Actor::Controller);
+        let driver = self.enabled(Actor::Driver);
+        count_acting(&self.progress, &self.traffic, controller, driver)
     }
 
     /// The enabled actor before which `k` others come in the order of their numbers; none where not so many are enabled. It
@@ -54,9 +56,10 @@ impl Book {
     pub fn enabled_at(&self, k: u32) -> Option<Actor>
         ensures { (actors : List Actor) × AreEnabled self.now.plan (now self.now) actors × (result ≡ slice_get actors k) }
     {
+        let controller = self.enabled(Actor::Controller);
         let driver = self.enabled(Actor::Driver);
-        if k < count_acting(&self.progress, &self.traffic, driver) {
-            let number = nth_acting(&self.progress, &self.traffic, driver, k);
+        if k < count_acting(&self.progress, &self.traffic, controller, driver) {
+            let number = nth_acting(&self.progress, &self.traffic, controller, driver, k);
             Some(actor_at(self.plan.settings, number))
         } else {
             None
@@ -78,6 +81,16 @@ impl Book {
         ensures none { IfNone result (NoneEnabled self.now.plan (now self.now)) }
     {
         self.enabled_at(0)
+    }
+
+    /// The hairpin that is the next to end, as its host and its VM; none where none may end. It takes a few steps.
+    pub fn next_hairpin(&self) -> Option<(u32, u32)>
+        ensures some { IfSome result (λ p. CanUnpin self.now.plan (now self.now) p.0 p.1) }
+        ensures none { IfNone result ((host vm : ℕ) → IsRipe self.now.plan (now self.now) host vm → ⊥) }
+    {
+        // The hairpins go by this number, and its clause says what every node has installed.
+        let _ = self.progress.least();
+        self.pins.first()
     }
 
     /// The node's programme.

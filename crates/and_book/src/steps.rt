@@ -7,14 +7,15 @@ ghost use Rattle.and_events.specs.Legal.{CanHold, IsAtRest, IsOver, KnowsVm};
 ghost use Rattle.and_events.specs.Places as places;
 ghost use Rattle.and_events.specs.Places.{IsNode, node_count};
 ghost use Rattle.and_events.specs.Ports.{ports_after};
-ghost use Rattle.and_events.specs.Sound.{IsBuiltEntry};
 ghost use Rattle.and_events.specs.State.{home, packet_at, ports_move_of_entry, with_hold};
+ghost use Rattle.and_book.specs.Inside.{BootsAnew, PinsFollow};
 ghost use Rattle.and_book.specs.Views.{now, held, IsSeat, with_line, IsPacket, IsAppend, IsHold, IsFree, finds_full};
 
 use crate::book::{Book, note};
 use and_events::{Event, Items, Node, Step, What, node_place};
 use and_kept::{Progress, Traffic};
 use and_parcel::Parcel;
+use and_pins::Pins;
 use and_policy::Entry;
 use and_ports::Ports;
 
@@ -29,7 +30,7 @@ impl Book {
         let step = self.next;
         let entry = due_entry(&self.plan.steps, step);
         self.progress.append(entry);
-        note_ports(&mut self.ports, entry);
+        note_ports(&mut self.ports, &mut self.pins, entry);
         self.next += 1;
         note(
             &mut self.lines,
@@ -184,13 +185,19 @@ fn note_hold(progress: &mut Progress, traffic: &mut Traffic, node: Node, what: W
     }
 }
 
-// The ports after a log entry.
+// The ports after a log entry, and the hairpins: a VM that is removed leaves none.
 #[tactic(auto, unfolding(and_events::specs::Ports::ports_after))]
-fn note_ports(ports: &mut Ports, entry: Entry)
-    requires { IsBuiltEntry entry }
-    ensures { ports.new ≡ ports_after ports.old (ports_move_of_entry entry) }
+fn note_ports(ports: &mut Ports, pins: &mut Pins, entry: Entry)
+    requires { BootsAnew ports.old entry }
+    ensures ports { ports.new ≡ ports_after ports.old (ports_move_of_entry entry) }
+    ensures pins { PinsFollow pins.old pins.new ports.old ports.new 0 }
 {
-    if let Entry::AddVm { vm, host, .. } = entry {
-        ports.boot(host, vm);
+    match entry {
+        Entry::AddVm { vm, host, .. } => ports.boot(host, vm),
+        Entry::RemoveVm { vm } => {
+            ports.halt(vm);
+            pins.take_all(vm);
+        }
+        _ => {}
     }
 }

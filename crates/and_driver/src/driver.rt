@@ -2,7 +2,6 @@
 ghost use Rattle.std.specs.Prelude.{◌≡◌, ◌↔◌, ◌+◌, ◌<◌, ◌≤◌, IsTrue, false, length, IfOk, OnOk, OnErr, IsOk, Some, slice_get, slice_index_or};
 ghost use Rattle.and_events.specs.declared.event.Actor.TheVariants.{Controller, Driver};
 ghost use Rattle.and_events.specs.Legal.{Enabled};
-ghost use Rattle.and_events.specs.Sound.{IsBuiltStep};
 ghost use Rattle.and_events.specs.State.{no_packet};
 ghost use Rattle.and_policy.specs.Frames.{fields};
 ghost use Rattle.and_book.specs.Views.{now, held, IsSeat};
@@ -31,10 +30,8 @@ fn parcel_of(alloc: Global, packets: &Items<Packet>, packet: u32) -> Result<Parc
 // The step that is due.
 fn due_step(book: &Book) -> Step
     requires { Enabled book.now.plan (now book.now) Driver }
-    ensures due { slice_get book.now.plan.steps (now book.now).next ≡ Some result }
-    ensures built { IsBuiltStep result }
+    ensures { slice_get book.now.plan.steps (now book.now).next ≡ Some result }
 {
-    book.is_run();
     match book.next_step() {
         Some(step) => step,
         None => unreachable!(),
@@ -73,6 +70,14 @@ fn drive(alloc: Global, book: &mut Book, seat: u32) -> Result<(), NoMemory>
             book.free(seat);
             Ok(())
         }
+        Step::Blackout { .. } => {
+            book.blackout(seat);
+            Ok(())
+        }
+        Step::Resume { .. } => {
+            book.resume(seat);
+            Ok(())
+        }
         Step::Wait => {
             book.wait(seat);
             Ok(())
@@ -81,7 +86,6 @@ fn drive(alloc: Global, book: &mut Book, seat: u32) -> Result<(), NoMemory>
             book.finish(seat);
             Ok(())
         }
-        _ => unreachable!(),
     }
 }
 
@@ -105,8 +109,7 @@ pub fn turn(alloc: Global, book: &mut Book, seat: u32) -> Result<bool, NoMemory>
     Ok(true)
 }
 
-/// Ends the hairpin that is the next to end, and answers true; false, with the book unchanged, exactly where the controller may not act. What the program runs
-/// so far makes no hairpin, so that it never may.
+/// Ends the hairpin that is the next to end, and answers true; false, with the book unchanged, exactly where the controller may not act.
 ///
 /// # Errors
 ///
@@ -119,10 +122,12 @@ pub fn control(alloc: Global, book: &mut Book, seat: u32) -> Result<bool, NoMemo
     ensures idle { IfOk result (λ done. done ≡ false → book.new ≡ book.old) }
     ensures err { OnErr result (book.new ≡ book.old) }
 {
-    let _ = (alloc, seat);
-    book.is_run();
-    if book.enabled(Actor::Controller) {
-        unreachable!();
+    let _ = alloc;
+    match book.next_hairpin() {
+        Some((host, vm)) => {
+            book.unpin(seat, host, vm);
+            Ok(true)
+        }
+        None => Ok(false),
     }
-    Ok(false)
 }

@@ -1,6 +1,5 @@
 -- Sound plans: what a script with a capture can give.
 use Rattle.std.specs.Prelude.{◌≡◌, ℕ, suc, ◌+◌, ◌<◌, ◌≤◌, ◌^◌, true, false, List, [], ◌∷◌, length, slice_get, Option, Some, None, Result, Ok, Err}
-use Rattle.std.specs.List.{All}
 use Rattle.and_policy.specs.declared.entry.Prefix.{Prefix}
 use Rattle.and_policy.specs.declared.entry.Rule.{Rule}
 use Rattle.and_policy.specs.declared.entry.Route.{Route}
@@ -135,27 +134,3 @@ pub record IsSound (plan : Plan) : Type 0 where
   pub few_steps : length plan.steps ≤ 262144
   pub few_packets : length plan.packets ≤ 100000
   pub steps : StepsFit plan at_start 0 plan.steps
-
--- what the program runs so far: one line a case
-abbrev pub IsBuiltEntry : Entry → Type 0
-IsBuiltEntry (AddNet net) = Unit {0}
-IsBuiltEntry (AddVm vm net mac ip host) = Unit {0}
-IsBuiltEntry (AddRule net rule) = rule.sealed ≡ false
-IsBuiltEntry (DelRule net number) = Unit {0}
-IsBuiltEntry (AddRoute net route) = Unit {0}
-IsBuiltEntry (DelRoute net number) = Unit {0}
-IsBuiltEntry Tick = Unit {0}
-IsBuiltEntry _ = ⊥
-
-abbrev pub IsBuiltStep : Step → Type 0
-IsBuiltStep (Append e) = IsBuiltEntry e
-IsBuiltStep Review = Unit {0}
-IsBuiltStep (Hold node what) = Unit {0}
-IsBuiltStep (Free node what) = Unit {0}
-IsBuiltStep Wait = Unit {0}
-IsBuiltStep (Inject i) = Unit {0}
-IsBuiltStep Finish = Unit {0}
-IsBuiltStep _ = ⊥
-
-pub record IsBuilt (plan : Plan) : Type 0 where
-  pub steps : All IsBuiltStep plan.steps

@@ -25,7 +25,7 @@ use Rattle.and_events.specs.declared.plan.What.TheVariants.{Install, Forward}
 use Rattle.and_events.specs.declared.plan.Step.TheVariants as steps
 use Rattle.and_events.specs.Planned.{Planning, nothing_planned, stepped, sendable, frame_sent, first_sent, send_frame, send_frames, item_applied, items_applied, frees_at, frees_below, frees, planned}
 use Rattle.and_events.specs.Script.{Script, holds_at, item_fault, script_after}
-use Rattle.and_events.specs.Sound.{IsBuiltEntry, IsBuiltStep, IsBuilt}
+use Rattle.and_built.specs.Built.{IsBuiltEntry, IsBuiltStep, IsBuilt}
 use Rattle.and_planner.specs.Scenarios.{is_built_item, IsBuiltScenario}
 
 -- the steps are built
@@ -64,13 +64,16 @@ item_builds n p (items.Entry (entries.AddRoute net route)) None is b = entry_bui
 item_builds n p (items.Entry (entries.DelRoute net number)) None is b = entry_builds p (entries.DelRoute net number) tt b
 item_builds n p (items.Entry entries.Tick) None is b =
     record { steps = All-append IsBuiltStep p.steps (steps.Append entries.Tick ∷ steps.Review ∷ []) b.steps (All-from_recursion IsBuiltStep (steps.Append entries.Tick ∷ steps.Review ∷ []) (tt, (tt, tt))) }
+item_builds n p (items.Entry (entries.RemoveVm vm)) None is b = entry_builds p (entries.RemoveVm vm) tt b
+item_builds n p (items.Entry (entries.Place vm host)) None is b = entry_builds p (entries.Place vm host) tt b
+item_builds n p (items.Blackout vm host) None is b = record { steps = one_more p.steps (steps.Blackout vm host) b.steps tt }
+item_builds n p (items.Resume vm) None is b = record { steps = one_more p.steps (steps.Resume vm) b.steps tt }
 item_builds n p items.Wait None is b = record { steps = one_more p.steps steps.Wait b.steps tt }
 item_builds n p (items.Hold node what) None is b = record { steps = one_more p.steps (steps.Hold node what) b.steps tt }
 item_builds n p (items.Free node what) None is b = record { steps = one_more p.steps (steps.Free node what) b.steps tt }
 item_builds n p (items.Send wanted) None is b =
     frames_build (min (unwrap_or wanted (length p.frames)) (length p.frames)) (stepped (record p { script = p.script }) [])
     (record { steps = subst (All IsBuiltStep) (sym (append-nil p.steps)) b.steps })
-item_builds n p item None is b = absurd (cc)
 
 items_build : (s : Settings) (n : ℕ) (list : List Item) (p : Planning) → AllPass is_built_item list → Builds p → Builds (items_applied s n list p)
 items_build s n [] p are b = b

@@ -6,7 +6,8 @@ use Rattle.and_policy.specs.declared.memory.NoMemory.{NoMemory}
 use Rattle.and_events.specs.declared.plan.Plan.{Plan}
 use Rattle.and_events.specs.declared.plan.Scenario.{Scenario}
 use Rattle.and_events.specs.Planned.{planned}
-use Rattle.and_events.specs.Sound.{IsSound, IsBuilt}
+use Rattle.and_events.specs.Sound.{IsSound}
+use Rattle.and_built.specs.Built.{IsBuilt}
 use Rattle.and_planner.proofs.Planned.{planned_is_sound}
 use Rattle.and_planner.proofs.Building.{planned_is_built}
 use Rattle.and_planner.specs.Scenarios.{IsBuiltScenario}

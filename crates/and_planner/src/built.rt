@@ -7,20 +7,13 @@ ghost use Rattle.and_planner.specs.Scenarios.{is_built_item, IsBuiltScenario};
 use and_events::{Item, Scenario};
 use and_policy::Entry;
 
-/// Whether the system runs the item so far: a network, a VM, a rule that seals nothing, a route, a deletion of a rule or a route, a tick, a send, a wait,
-/// a hold or a free.
+/// Whether the system runs the item so far: all but a rule that seals.
 fn is_built_item(item: &Item) -> bool
     ensures { result ≡ is_built_item item.now }
 {
     match *item {
-        Item::Entry(Entry::AddNet { .. }) | Item::Entry(Entry::AddVm { .. }) => true,
         Item::Entry(Entry::AddRule { rule, .. }) => !rule.sealed,
-        Item::Entry(Entry::DelRule { .. }) => true,
-        Item::Entry(Entry::AddRoute { .. }) | Item::Entry(Entry::DelRoute { .. }) => true,
-        Item::Entry(Entry::Tick) => true,
-        Item::Wait | Item::Send { .. } => true,
-        Item::Hold { .. } | Item::Free { .. } => true,
-        _ => false,
+        _ => true,
     }
 }
 

@@ -4,7 +4,8 @@ ghost use Rattle.std.specs.Prelude.{◌≤◌, length};
 ghost use Rattle.and_capture.specs.declared.capture.Capture.{Capture};
 ghost use Rattle.and_events.specs.declared.plan.Scenario.{Scenario};
 ghost use Rattle.and_events.specs.Planned.{planned};
-ghost use Rattle.and_events.specs.Sound.{IsSound, IsBuilt};
+ghost use Rattle.and_events.specs.Sound.{IsSound};
+ghost use Rattle.and_built.specs.Built.{IsBuilt};
 ghost use Rattle.and_planner.specs.Scenarios.{IsScenario, IsBuiltScenario};
 
 /// The plan of a scenario whose numbers are in their ranges, with a capture of at most 100,000 frames, is sound.

@@ -1,7 +1,8 @@
 //! The plan of a scenario and a capture.
 ghost use Rattle.std.specs.Prelude.{◌≡◌, ◌≤◌, length, IfOk};
 ghost use Rattle.and_events.specs.Planned.{planned, items_applied, nothing_planned};
-ghost use Rattle.and_events.specs.Sound.{IsSound, IsBuilt};
+ghost use Rattle.and_events.specs.Sound.{IsSound};
+ghost use Rattle.and_built.specs.Built.{IsBuilt};
 ghost use Rattle.and_planner.specs.Scenarios.{IsBuiltScenario};
 ghost use Rattle.and_planner.specs.Planners.{planning_of};
 ghost use Rattle.and_planner.specs.Plans.{CanPlan};

@@ -1,7 +1,8 @@
--- The turn of the driver: the step that is due.
+-- The turns of the driver, the step that is due, and of the controller, the hairpin that is the next to end.
 use Rattle.std.proofs.Common.{◌≡◌, List, refl}
-use Rattle.and_events.specs.declared.event.Actor.TheVariants.{Driver}
+use Rattle.and_events.specs.declared.event.Actor.TheVariants.{Controller, Driver}
 use Rattle.and_events.specs.declared.event.Event.{Event}
+use Rattle.and_events.specs.declared.event.Event.TheVariants as events
 use Rattle.and_events.specs.declared.plan.Plan.{Plan}
 use Rattle.and_events.specs.declared.plan.Step.{Step}
 use Rattle.and_events.specs.declared.plan.Step.TheVariants as steps
@@ -12,7 +13,7 @@ use Rattle.and_events.specs.Run.{past}
 use Rattle.and_events.specs.State.{State}
 use Rattle.and_others.specs.Ways.{IsWay, asked}
 use Rattle.and_book.specs.Views.{BookView, now}
-use Rattle.and_driver.specs.Driving.{DoesStep, event_of}
+use Rattle.and_driver.specs.Driving.{DoesStep, Unpins, event_of}
 use Rattle.and_replay.specs.Turns.{Adds}
 
 -- the event of a step is the driver's, and decides nothing
@@ -36,3 +37,6 @@ pub drives : (old new : BookView) → DoesStep old new 0 → Adds old new Driver
 drives old new does =
     let it = driving old.plan (past old.lines) (now old) does.step in
     record { event = event_of old.plan (now old) does.step; line = does.line; actor = it.actor; number = it.number; way = it.way }
+
+pub unpins : (old new : BookView) → Unpins old new 0 → Adds old new Controller
+unpins old new did = record { event = events.Unpin did.host did.vm; line = did.line; actor = refl; number = tt; way = tt }

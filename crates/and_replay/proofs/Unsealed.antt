@@ -29,7 +29,8 @@ use Rattle.and_events.specs.Flow.{Flow, Move, Stay, Enter, Lose, Grab, Send, Sea
 use Rattle.and_events.specs.Legal.{Legal, Enabled, CanTake, Departs, entries_at}
 use Rattle.and_events.specs.Places.{queue_place, queue_count, hand_count, hand_place, node_of, IsActor, IsWorker}
 use Rattle.and_events.specs.Run.{Run}
-use Rattle.and_events.specs.Sound.{IsSound, IsBuilt}
+use Rattle.and_events.specs.Sound.{IsSound}
+use Rattle.and_built.specs.Built.{IsBuilt}
 use Rattle.and_events.specs.State.{State, state, start, after, move_of, send, departs, node_at, dest_endpoint, dest_net, source_net, carried_at, packet_at, tuple_at, programme_of}
 use Rattle.and_laws.proofs.Rows.{set_at, replicate_at}
 use Rattle.and_book.proofs.Settled.{worker_node}

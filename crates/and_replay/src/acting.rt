@@ -1,7 +1,7 @@
 //! The turns of the actors.
 ghost use Rattle.std.specs.Prelude.{◌≡◌, ◌+◌, ◌<◌, ◌≤◌, true, length, is_some, OnOk};
 ghost use Rattle.and_events.specs.declared.event.Actor.TheVariants as actors;
-ghost use Rattle.and_events.specs.declared.event.Actor.TheVariants.{Driver};
+ghost use Rattle.and_events.specs.declared.event.Actor.TheVariants.{Controller, Driver};
 ghost use Rattle.and_events.specs.declared.event.Node.TheVariants as nodes;
 ghost use Rattle.and_events.specs.Legal.{CanAnnounce, CanInstall};
 ghost use Rattle.and_events.specs.Places.{IsNode, installer_of};
@@ -11,7 +11,7 @@ ghost use Rattle.and_replay.specs.Parting.{installed_ops, host_tables, IsBatch, 
 ghost use Rattle.and_replay.specs.Turns.{IsNext, Adds};
 
 use and_book::Book;
-use and_driver::turn;
+use and_driver::{control, turn};
 use and_events::{Actor, Node, hand_place};
 use and_hover::Hover;
 use and_install::{apply, begin, end};
@@ -290,5 +290,15 @@ pub(crate) fn drive(alloc: Global, book: &mut Book) -> Result<(), NoMemory>
     ensures adds { OnOk result (Adds book.old book.new Driver) }
 {
     let _done = turn(alloc, book, 0)?;
+    Ok(())
+}
+
+// The controller ends the hairpin that is the next to end.
+pub(crate) fn unpin(alloc: Global, book: &mut Book) -> Result<(), NoMemory>
+    requires next { IsNext book.old Controller }
+    requires room { held book.old + 1 ≤ book.old.spare }
+    ensures adds { OnOk result (Adds book.old book.new Controller) }
+{
+    let _done = control(alloc, book, 0)?;
     Ok(())
 }

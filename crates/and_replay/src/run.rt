@@ -3,14 +3,15 @@ ghost use Rattle.std.specs.Prelude.{◌≡◌, [], ◌+◌, ◌<◌, ◌≤◌, 
 ghost use Rattle.and_events.specs.Complete.{IsComplete};
 ghost use Rattle.and_events.specs.Ordered.{IsInPlainOrder};
 ghost use Rattle.and_events.specs.Run.{Run, past};
-ghost use Rattle.and_events.specs.Sound.{IsSound, IsBuilt};
+ghost use Rattle.and_events.specs.Sound.{IsSound};
+ghost use Rattle.and_built.specs.Built.{IsBuilt};
 ghost use Rattle.and_laws.specs.Bound.{bound};
 ghost use Rattle.and_others.specs.Ways.{Ways};
 ghost use Rattle.and_book.specs.Views.{now, held};
 ghost use Rattle.and_replay.specs.Parting.{AreParts};
 ghost use Rattle.and_replay.specs.Turns.{IsNext, IsUnderWay, Adds};
 
-use crate::acting::{drive, install_gate, install_host, pass_at, work_at};
+use crate::acting::{drive, install_gate, install_host, pass_at, unpin, work_at};
 use crate::first::first_enabled;
 use crate::parts::Parts;
 use and_book::Book;
@@ -75,7 +76,12 @@ fn act<L: Ledger>(
             book.is_run();
             Ok(())
         }
-        Actor::Coproc(_) | Actor::Controller => unreachable!(),
+        Actor::Controller => {
+            unpin(alloc, book)?;
+            book.is_run();
+            Ok(())
+        }
+        Actor::Coproc(_) => unreachable!(),
     }
 }
 

@@ -11,6 +11,7 @@ use Rattle.and_events.specs.Run.{Run}
 use Rattle.and_events.specs.Sound.{IsSound}
 use Rattle.and_laws.proofs.Complete.{one_fate}
 use Rattle.and_laws.proofs.Fates.{accounted}
+use Rattle.and_laws.proofs.Following.{running_ports}
 use Rattle.and_laws.proofs.Justified.{just}
 use Rattle.and_laws.proofs.Offloading.{right_offloads}
 use Rattle.and_laws.proofs.Needs.{fresh}
@@ -55,6 +56,7 @@ is_whole_run plan h sound run complete spelled =
       just = just plan h sound run;
       fresh = fresh plan h run;
       offloads = right_offloads plan h sound run;
+      ports = λ later earlier is. running_ports plan earlier sound (earlier_runs plan later earlier (subst (Run plan) is run));
       accounted = λ later earlier is. accounted plan earlier (earlier_runs plan later earlier (subst (Run plan) is run));
       spelled = spelled (runs_have_spellings plan h run);
     }

@@ -10,8 +10,10 @@ use Rattle.and_events.specs.Just.{Just}
 use Rattle.and_events.specs.Ordered.{IsInPlainOrder}
 use Rattle.and_events.specs.Planned.{planned}
 use Rattle.and_events.specs.Run.{Run}
-use Rattle.and_events.specs.Sound.{IsSound, IsBuilt}
+use Rattle.and_events.specs.Sound.{IsSound}
+use Rattle.and_built.specs.Built.{IsBuilt}
 use Rattle.and_laws.specs.Fates.{HasOneFate, IsAccounted}
+use Rattle.and_laws.specs.LivePorts.{HasRunningPorts}
 use Rattle.and_laws.specs.Offloads.{HasRightOffloads}
 use Rattle.and_others.specs.Ways.{Ways}
 use Rattle.and_outputs.specs.Delivered.{delivered}
@@ -25,7 +27,7 @@ use Rattle.and_top.specs.Words.{Named}
 -- What every command says of its run, in whatever order the actors took their turns. The history, whose newest event is first, is a run of the plan to its end.
 -- Each packet of the plan has exactly one fate, for its reason, by decisions no older than what was installed when it was taken; and after each event the
 -- packets injected so far are as many as the fates, the queued and the held together. A packet that is offloaded goes where the route of its network leads under the
--- same prefix, as a gateway would have sent it. Each event has a spelling: no other history whose events have one has this trace
+-- same prefix, as a gateway would have sent it. At each moment a live VM outside a blackout runs at one host, and one in a blackout at none. Each event has a spelling: no other history whose events have one has this trace
 pub record IsWholeRun (plan : Plan) (h : List Event) : Type 0 where
   pub run : Run plan h
   pub complete : IsComplete plan h
@@ -33,6 +35,7 @@ pub record IsWholeRun (plan : Plan) (h : List Event) : Type 0 where
   pub just : (packet : ℕ) → Just plan h packet
   pub fresh : (packet : ℕ) → Fresh plan h packet
   pub offloads : HasRightOffloads plan h
+  pub ports : (later earlier : List Event) → h ≡ later ++ earlier → HasRunningPorts plan earlier
   pub accounted : (later earlier : List Event) → h ≡ later ++ earlier → IsAccounted plan earlier
   pub spelled : IsSpelled h
 

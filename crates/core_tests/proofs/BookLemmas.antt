@@ -3,7 +3,8 @@ use Rattle.std.proofs.Common.{◌≡◌, ◌∷◌, [], refl, sym, subst, arith}
 use Rattle.std.proofs.lemmas.List.Elements.{All-nil, All-cons}
 use Rattle.and_events.specs.declared.plan.Plan.{Plan}
 use Rattle.and_events.specs.declared.plan.Step.TheVariants as steps
-use Rattle.and_events.specs.Sound.{IsSound, IsBuilt, IsBuiltStep}
+use Rattle.and_events.specs.Sound.{IsSound}
+use Rattle.and_built.specs.Built.{IsBuilt, IsBuiltStep}
 use Rattle.core_tests.specs.Small.{small_plan}
 
 sound_small : IsSound small_plan

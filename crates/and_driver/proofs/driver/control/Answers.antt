@@ -1,9 +1,11 @@
-use Rattle.and_events.specs.declared.event.Actor.TheVariants.{Controller}
-use Rattle.and_events.specs.Run.{past}
-use Rattle.and_book.proofs.Due.{may_act_of}
+use Rattle.std.proofs.Common.{ℕ, subst}
+use Rattle.std.specs.Prelude.{IfNone}
+use Rattle.and_events.specs.Legal.{IsRipe}
+use Rattle.and_book.specs.Views.{now}
+use Rattle.and_driver.proofs.Due.{no_end}
 use Rattle.and_driver.proofs.driver.control.Goals as goal
 
-pub unreachable-requires : goal.unreachable-requires
-unreachable-requires c =
+pub returns-in-None-clause-may : goal.returns-in-None-clause-may
+returns-in-None-clause-may c =
     let b = c.args.book.now in
-    (may_act_of b.plan (past b.lines) c.is_run.ensures.sound c.is_run.ensures.built c.is_run.ensures.run Controller (c.enabled.ensures.0 c.if-enabled.true)).1
+    (λ t. absurd (cc), λ e. absurd (no_end b.plan (now b) (subst (λ o. IfNone o ((host vm : ℕ) → IsRipe b.plan (now b) host vm → ⊥)) c.in-None.is c.next_hairpin.ensures.none) e))

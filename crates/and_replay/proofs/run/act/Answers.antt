@@ -1,9 +1,8 @@
-use Rattle.std.proofs.Common.{◌≡◌, ℕ, subst, ⊎_elim}
-use Rattle.and_events.specs.declared.event.Actor.TheVariants.{HostInstall, GateInstall, Worker, Coproc, Gateway, Controller, Driver}
+use Rattle.std.proofs.Common.{subst}
+use Rattle.and_events.specs.declared.event.Actor.TheVariants.{HostInstall, GateInstall, Worker, Gateway, Controller, Driver}
 use Rattle.and_events.specs.Legal.{Enabled}
 use Rattle.and_events.specs.Run.{past}
 use Rattle.and_book.specs.Views.{now}
-use Rattle.and_book.proofs.Due.{may_act_of}
 use Rattle.and_replay.proofs.Others.{gate_batches_last, gates_last, host_batches_last, hosts_last, hovers_last, workers_last}
 use Rattle.and_replay.proofs.Unsealed.{never_seals}
 use Rattle.and_replay.proofs.run.act.Goals as goal
@@ -15,10 +14,7 @@ unreachable-requires g c =
     let sound = c.is_run.ensures.sound in
     let built = c.is_run.ensures.built in
     let run = c.is_run.ensures.run in
-    ⊎_elim
-    (λ (it : (k : ℕ) × (c.args.actor ≡ Coproc k)). never_seals b.plan h it.0 sound built run (subst (Enabled b.plan (now b)) it.1 c.requires.next.enabled))
-    (λ (is : c.args.actor ≡ Controller). (may_act_of b.plan h sound built run Controller (subst (Enabled b.plan (now b)) is c.requires.next.enabled)).1)
-    c.in-Coproc.is
+    never_seals b.plan h _ sound built run (subst (Enabled b.plan (now b)) c.in-Coproc.is c.requires.next.enabled)
 
 pub returns-in_ok-install_host-in-HostInstall-clause-parts : goal.returns-in_ok-install_host-in-HostInstall-clause-parts
 returns-in_ok-install_host-in-HostInstall-clause-parts g c =
@@ -112,4 +108,22 @@ returns-in_ok-drive-in-Driver-clause-parts g c =
       gate_batches = gate_batches_last b new Driver did.adds sound run p.gate_batches.items (λ n e. cc) was.gate_batches;
       workers = workers_last b new Driver did.adds sound run p.workers.items (λ n m e. cc) was.workers;
       hovers = hovers_last b new Driver did.adds sound run p.hovers.items (λ n e. cc) was.hovers;
+    }
+
+pub returns-in_ok-unpin-in-Controller-clause-parts : goal.returns-in_ok-unpin-in-Controller-clause-parts
+returns-in_ok-unpin-in-Controller-clause-parts g c =
+    let b = c.args.book.now in
+    let p = c.args.parts.now in
+    let was = c.requires.parts in
+    let new = c.unpin.new.book in
+    let did = c.in_ok-unpin-in-Controller.ensures in
+    let sound = c.is_run-in-Controller.ensures.sound in
+    let run = c.is_run-in-Controller.ensures.run in
+    record {
+      hosts = hosts_last b new Controller did.adds sound run p.hosts.items (λ n e. cc) was.hosts;
+      gates = gates_last b new Controller did.adds sound run p.gates.items (λ n e. cc) was.gates;
+      host_batches = host_batches_last b new Controller did.adds sound run p.host_batches.items (λ n e. cc) was.host_batches;
+      gate_batches = gate_batches_last b new Controller did.adds sound run p.gate_batches.items (λ n e. cc) was.gate_batches;
+      workers = workers_last b new Controller did.adds sound run p.workers.items (λ n m e. cc) was.workers;
+      hovers = hovers_last b new Controller did.adds sound run p.hovers.items (λ n e. cc) was.hovers;
     }

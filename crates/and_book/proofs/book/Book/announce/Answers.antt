@@ -27,7 +27,7 @@ invariant_of-self c =
     record {
       keeps = keeps_more plan x.threads x.lines.items c.note.new.lines.items k _ _ (vec_capacity c.note.new.lines - vec_len c.note.new.lines) c.args.seat (Announce c.args.node c.announce-upto.result)
           c.self.invariant.keeps (legal_announce plan s c.args.node c.announce-upto.result ready upto) seat c.note.ensures.items
-          (after_announce plan s k c.announce-upto.new.self c.args.node c.node_place-place.result c.announce-upto.result c.self.invariant.keeps.stands c.node_place-place.ensures.place c.announce-upto.ensures.programmes c.announce-upto.ensures.limit c.announce-upto.ensures.held)
+          (after_announce plan s k c.announce-upto.new.self c.args.node c.node_place-place.result c.announce-upto.result c.self.invariant.keeps.stands c.node_place-place.ensures.place c.announce-upto.ensures.programmes c.announce-upto.ensures.limit c.announce-upto.ensures.held c.announce-upto.ensures.least)
           (still plan (past x.lines.items) (Announce c.args.node c.announce-upto.result) k.roads tt c.self.invariant.keeps.parcels) fits;
       due = unprepared c.note.new.prepared c.note.ensures.prepared;
     }

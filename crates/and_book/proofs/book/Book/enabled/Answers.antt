@@ -17,7 +17,7 @@ can_act-requires-clause-there c =
     let inv = c.self.invariant.keeps in
     let due = seen x c.args.self.now c.self.view_is (λ (b : BookView). c.next_step.result ≡ slice_get b.plan.steps (now b).next) c.next_step.ensures in
     subst (λ v. IsThere v plan.packets c.next_step.result) (sym inv.sized.settings)
-    (subst (IsThere plan.settings plan.packets) (sym due) (due_is_there plan (past x.lines.items) inv.sound inv.built inv.run))
+    (subst (IsThere plan.settings plan.packets) (sym due) (due_is_there plan (past x.lines.items) inv.sound inv.run))
 
 pub returns : goal.returns
 returns c =
@@ -27,4 +27,4 @@ returns c =
     let inv = c.self.invariant.keeps in
     let due = seen x c.args.self.now c.self.view_is (λ (b : BookView). c.next_step.result ≡ slice_get b.plan.steps (now b).next) c.next_step.ensures in
     subst (λ (b : BookView). IsTrue c.can_act.result ↔ Enabled b.plan (now b) c.args.actor) c.self.view_is
-    (enabled_by plan (past x.lines.items) inv.sound inv.built inv.run k inv.sized.settings c.next_step.result c.args.actor c.can_act.result inv.stands due c.can_act.ensures)
+    (enabled_by plan (past x.lines.items) inv.sound inv.run k inv.sized.settings inv.pins.standing c.next_step.result c.args.actor c.can_act.result inv.stands due c.can_act.ensures)

@@ -43,7 +43,7 @@ invariant_of-self c =
       keeps = keeps_more plan x.threads x.lines.items c.note.new.lines.items k _ _ (vec_capacity c.note.new.lines - vec_len c.note.new.lines) c.args.seat (Review x.next)
           inv (legal_review plan s x.next inv.stands.next due) seat c.note.ensures.items
           (after_review plan s k c.give.new.self c.clear.new.self x.next c.deref.result.now inv.stands (ap (slice_get plan.steps) inv.stands.next ∙ due)
-          (c.deref.ensures.value ∙ (c.self.invariant.due is).are) c.give.ensures.programmes c.give.ensures.limit c.give.ensures.held c.clear.ensures.used c.clear.ensures.room c.clear.ensures.known)
+          (c.deref.ensures.value ∙ (c.self.invariant.due is).are) c.give.ensures.programmes c.give.ensures.limit c.give.ensures.held c.give.ensures.least c.clear.ensures.used c.clear.ensures.room c.clear.ensures.known)
           (still plan (past x.lines.items) (Review x.next) k.roads tt inv.parcels) fits;
       due = unprepared c.note.new.prepared c.note.ensures.prepared;
     }

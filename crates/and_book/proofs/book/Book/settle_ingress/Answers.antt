@@ -13,14 +13,13 @@ use Rattle.and_laws.proofs.Capacity.{queues_within}
 use Rattle.and_kept.specs.declared.traffic.Holder.{Holder}
 use Rattle.and_kept.specs.Lanes.{Roads}
 use Rattle.and_kept.specs.Moves.{hand_of}
-use Rattle.and_kept.specs.Settling.{arrival_of}
+use Rattle.and_kept.specs.Settling.{LeadsLanding, arrival_of}
 use Rattle.and_book.specs.Views.{BookView, now, IsSeat, IsPacket}
 use Rattle.and_book.specs.Settling.{MaySettleIngress, landing_said, ingress_event}
 use Rattle.and_book.specs.Inside.{Kept, Keeps, kept_of}
 use Rattle.and_book.proofs.More.{unprepared, seen, as_kept}
-use Rattle.and_book.proofs.Arriving.{legal_ingress}
+use Rattle.and_book.proofs.Arriving.{legal_ingress, leads_landing}
 use Rattle.and_book.proofs.FromHand.{IsFrom, ingress_uses, arrives_from, ingress_moves}
-use Rattle.and_book.proofs.PlainPorts.{ArePlain, plain_ports, leads_landing}
 use Rattle.and_book.proofs.Settled.{worker_handles}
 use Rattle.and_book.proofs.Settling.{known_packet, may_move, settled_keeps}
 use Rattle.and_book.proofs.book.Book.settle_ingress.Goals as goal
@@ -44,7 +43,10 @@ pub settle_landing-arrival-requires-clause-leads : goal.settle_landing-arrival-r
 settle_landing-arrival-requires-clause-leads c =
     let x = c.self.inside in
     let inv = c.self.invariant.keeps in
-    leads_landing x.traffic.settings x.ports (host_of (node_of c.holder-from.result.actor)) c.landing_in-said.result (subst ArePlain (sym inv.stands.ports) (plain_ports x.plan (past x.lines.items) inv.built inv.run))
+    let here = host_of (node_of c.holder-from.result.actor) in
+    let said = c.landing_in-said.result in
+    subst (λ v. LeadsLanding v x.ports here said) (sym inv.sized.settings)
+    (subst (λ rows. LeadsLanding x.plan.settings rows here said) (sym inv.stands.ports) (leads_landing x.plan (past x.lines.items) here said inv.sound inv.run))
 
 pub invariant_of-self : goal.invariant_of-self
 invariant_of-self c =
@@ -82,7 +84,7 @@ invariant_of-self c =
     ∙ (as_kept plan s k (λ v g. arrives v (carried_in g.carried i) (hand_place v a) i arrival) inv.sized.settings st.flow
     ∙ (ap (arrives plan.settings (carried_at s i) (hand_place plan.settings a) i) arrived ∙ ingress_moves plan s a i d.at d.way _)) in
     let sized = ap (λ g. length g.queues) (sym st.flow) ∙ inv.sizes.queues in
-    let leads = leads_landing plan.settings s.ports here (landing_said plan s a i d.at) (plain_ports plan (past lines) inv.built inv.run) in
+    let leads = leads_landing plan (past lines) here (landing_said plan s a i d.at) inv.sound inv.run in
     record {
       keeps = subst (λ (r : Roads). Keeps plan x.threads lines' (record k { roads = r }) spare') (sym c.settle_landing-arrival.ensures.moved)
           (settled_keeps plan x.threads lines k _ inv a ready.decides.need Wire c.args.parcel ready.decides.holds lines' spare' c.args.seat e f _ k.reviews

@@ -1,4 +1,4 @@
-use Rattle.std.proofs.Common.{◌≤◌, ◌-◌, ◌∙◌, vec_len, vec_capacity, arith}
+use Rattle.std.proofs.Common.{◌≤◌, ◌-◌, ◌∙◌, ap, vec_len, vec_capacity, arith}
 use Rattle.and_events.specs.declared.plan.Plan.{Plan}
 use Rattle.and_events.specs.declared.event.Event.TheVariants.{Installed}
 use Rattle.and_events.specs.State.{State, state}
@@ -27,7 +27,8 @@ invariant_of-self c =
     record {
       keeps = keeps_more plan x.threads x.lines.items c.note.new.lines.items k _ _ (vec_capacity c.note.new.lines - vec_len c.note.new.lines) c.args.seat (Installed c.args.node c.install-upto.result)
           c.self.invariant.keeps (legal_installed plan s c.args.node c.install-upto.result ready upto) seat c.note.ensures.items
-          (after_installed plan s k c.install-upto.new.self c.args.node c.node_place-place.result c.install-upto.result c.self.invariant.keeps.stands c.node_place-place.ensures.place c.install-upto.ensures.programmes c.install-upto.ensures.limit c.install-upto.ensures.held)
+          (after_installed plan s k c.install-upto.new.self c.ripen.new.self c.args.node c.node_place-place.result c.install-upto.result c.self.invariant.keeps.stands c.node_place-place.ensures.place c.install-upto.ensures.programmes c.install-upto.ensures.limit c.install-upto.ensures.held
+          (c.ripen.ensures ∙ ap (λ n. record k.pins { least = n }) c.least.ensures.is))
           (still plan (past x.lines.items) (Installed c.args.node c.install-upto.result) k.roads tt c.self.invariant.keeps.parcels) fits;
       due = unprepared c.note.new.prepared c.note.ensures.prepared;
     }

@@ -3,8 +3,8 @@
 and N.trace for N from 0 on.
 
 Use: generate.py FOLDER COUNT SEED
-The scenarios are of the kinds of items that the program takes so far: networks, VMs, rules, routes, what deletes these, ticks, sends, waits, holds
-and frees, on up to seven hosts and eight gateways, with settings of all kinds. About half of the packets are of the flow of an earlier one.
+The scenarios have all kinds of items that the program takes so far: networks, VMs, rules, routes, what deletes these, ticks, blackouts, resumes, sends,
+waits, holds and frees, on up to seven hosts and eight gateways, with settings of all kinds. About half of the packets are of the flow of an earlier one.
 """
 
 import os
@@ -37,6 +37,9 @@ def scenario_of(draw):
         source = draw.choice(["", f',"source":"{draw.choice(vms)[3]}/{draw.choice([16, 24, 31, 32])}"'])
         items.append(f'{{"do":"add_rule","net":{draw.choice(nets)},"number":{number},"priority":{draw.randrange(0, 4)},"side":"{side}",'
                      f'"action":"{draw.choice(["allow", "allow", "deny"])}"{protocol}{source}{ports}}}')
+    for net in nets:
+        if draw.random() < 0.5:
+            items.append(f'{{"do":"add_rule","net":{net},"number":20,"priority":{draw.randrange(0, 6)},"side":"ingress","action":"allow"}}')
     for number in range(1, draw.randrange(1, 6)):
         target = draw.choice(['"local"', '"drop"', f'"peer","peer":{draw.choice(nets)}', f'"peer","peer":{draw.choice(nets)}'])
         prefix = f"{draw.choice(vms)[3]}/{draw.choice([0, 8, 16, 24, 32])}"
@@ -58,14 +61,40 @@ def scenario_of(draw):
             items.append('{"do":"send","frames":%d}' % draw.randrange(3, 14))
             items.append(draw.choice(['{"do":"tick"}'] * 3 + [f'{{"do":"del_rule","net":{draw.choice(nets)},"number":{draw.randrange(1, 6)}}}',
                                                               f'{{"do":"del_route","net":{draw.choice(nets)},"number":{draw.randrange(1, 6)}}}']))
+    if draw.random() < 0.6:
+        items += moves_of(draw, hosts, len(vms))
     if draw.random() < 0.7:
         items.append('{"do":"send"}')
     return f'{{"hosts":{hosts},"gateways":{draw.randrange(1, 9)},{settings_of(draw)}"script":[' + ",\n".join(items) + "]}\n", vms
 
 
+def moves_of(draw, hosts, count):
+    """Blackouts and resumes between sends, now and then of the same VM again before its hairpin ends, held back at some node so that others decide by what
+    was, or refused; and now and then a VM is removed, in a blackout too."""
+    items = []
+    for _ in range(draw.randrange(2, 9)):
+        vm, node, what = f"v{draw.randrange(count)}", f"h{draw.randrange(hosts)}", draw.choice(["install", "install", "forward"])
+        move = [f'{{"do":"blackout","vm":"{vm}","host":{draw.randrange(hosts)}}}', f'{{"do":"resume","vm":"{vm}"}}']
+        if draw.random() < 0.1:
+            move[draw.randrange(2)] = f'{{"do":"remove_vm","vm":"{vm}"}}'
+        if draw.random() < 0.5:
+            move = [f'{{"do":"hold","node":"{node}","what":"{what}"}}'] + move + [f'{{"do":"free","node":"{node}","what":"{what}"}}']
+        if draw.random() < 0.3:
+            move.insert(0, '{"do":"tick"}')
+        for item in move:
+            items.append(item)
+            if draw.random() < 0.7:
+                items.append('{"do":"send","frames":%d}' % draw.randrange(2, 12))
+        if draw.random() < 0.2:
+            items.append('{"do":"wait"}')
+    return items
+
+
 def frame_of(draw, vms, number):
     """A frame, now and then one that is skipped, spoofed, or for nobody."""
     source, destination = draw.choice(vms), draw.choice(vms)
+    if draw.random() < 0.6:
+        destination = draw.choice([vm for vm in vms if vm[0] == source[0]])
     mac = draw.choice([source[2]] * 9 + [0x02FFFFFFFFFF])
     addresses = [draw.choice([source[3]] * 9 + ["10.9.9.9"]), draw.choice([destination[3]] * 9 + ["10.8.8.8"])]
     protocol, port = draw.choice([6, 6, 17, 1]), draw.choice([22, 53, 80, 443, 500])
@@ -79,9 +108,9 @@ def frame_of(draw, vms, number):
 
 
 def capture_of(draw, vms):
-    """A capture of up to ninety frames, of which about half repeat an earlier one, whose packet is then of the same flow."""
+    """A capture of up to three hundred frames, of which about half repeat an earlier one, whose packet is then of the same flow."""
     out, frames = struct.pack("<IHHIIII", 0xA1B2C3D4, 2, 4, 0, 0, 262144, 1), []
-    for number in range(draw.randrange(0, 90)):
+    for number in range(draw.randrange(0, 300)):
         data = draw.choice(frames) if frames and draw.random() < 0.5 else frame_of(draw, vms, number)
         frames.append(data)
         out += struct.pack("<IIII", 1_000_000_000 + number, number, len(data), len(data)) + data

@@ -1,7 +1,7 @@
 #!/usr/bin/env bash
 # Both captures that a replay of each example writes: the frames in the underlay's packets are the sent frames and those of the other capture are the delivered
 # ones as they were captured, by a reader of Python's own (scripts/captures.py); and tshark and tcpdump, where they are installed, open both without an option
-# and find VXLAN in each packet of the underlay; and tshark counts as many hops from host to host as the report has offloads.
+# and find VXLAN in each packet of the underlay; and tshark counts as many hops from host to host as the report has offloads and hairpins.
 set -u
 cd "$(dirname "$0")/.." || exit 1
 program=crates/andromeda/out/andromeda
@@ -11,9 +11,10 @@ work=$(mktemp -d) || exit 1
 trap 'rm -rf "$work"' EXIT
 failed() { echo "failed: $1"; exit 1; }
 
-for example in "two-vms two-vms/hundred-frames" "three-hosts three-hosts/traffic" "lag three-hosts/traffic" "offload offload/traffic"; do
-  read -r folder capture <<<"$example"
-  of=("examples/$folder/scenario.json" "examples/$capture.pcap")
+for example in "two-vms/scenario two-vms/hundred-frames" "three-hosts/scenario three-hosts/traffic" "lag/scenario three-hosts/traffic" "offload/scenario offload/traffic" \
+  "migration/scenario migration/traffic" "migration/lag migration/traffic"; do
+  read -r scenario capture <<<"$example"
+  folder=${scenario%/*} of=("examples/$scenario.json" "examples/$capture.pcap")
   out=$work/$folder
   "$program" replay "${of[@]}" "$out" >"$work/report" || failed "the replay of $folder"
   python3 scripts/captures.py "${of[@]}" "$out" || failed "the captures of $folder"
@@ -27,8 +28,8 @@ for example in "two-vms two-vms/hundred-frames" "three-hosts three-hosts/traffic
   command -v tshark >/dev/null || continue
   tshark -n -r "$out.underlay.pcap" -T fields -e frame.protocols >"$work/protocols" 2>/dev/null || failed "tshark"
   ! grep -v 'ip:udp:vxlan:eth' "$work/protocols" || failed "a packet of the underlay of $folder is no VXLAN for tshark"
-  # A packet that is offloaded goes from host to host (172.16.HOST.1), and all others from a host to a gateway or from there to a host.
+  # A packet that is offloaded, and one that an old host sends after its VM, goes from host to host (172.16.HOST.1), and all others from a host to a gateway or from there to a host.
   tshark -n -r "$out.underlay.pcap" -Y 'ip.src[0:2] == ac:10 && ip.dst[0:2] == ac:10' >"$work/direct" 2>/dev/null || failed "tshark"
-  [ "offload $(wc -l <"$work/direct")" = "$(grep '^offload ' "$work/report")" ] || failed "tshark counts other hops from host to host in $folder than the report"
+  [ "$(wc -l <"$work/direct")" = "$(awk '$1 == "offload" || $1 == "hairpin" { sum += $2 } END { print sum }' "$work/report")" ] || failed "tshark counts other hops from host to host in $folder than the report"
 done
 echo "passed: both captures of each example hold the frames that were sent and delivered"

@@ -1,6 +1,6 @@
 #!/usr/bin/env bash
 # The reports of the examples, and the traces of all but the first, are those that were written down by hand from tshark's list and the scenario's
-# rules (README.md of each), and the captures of the last two are those that the model composes. What the program writes goes to a folder beside it that is no part of the
+# rules (README.md of each), and the captures of all but the first two are those that the model composes. What the program writes goes to a folder beside it that is no part of the
 # repository.
 set -u
 cd "$(dirname "$0")/.." || exit 1
@@ -20,16 +20,17 @@ example=examples/three-hosts
 same "$example/report.txt" "$work/three.report" "the report of $example differs"
 same "$example/trace.txt" "$work/three.trace" "the trace of $example differs"
 
-for pair in "lag three-hosts/traffic" "offload offload/traffic"; do
-  read -r name capture <<<"$pair"
-  example=examples/$name traffic=examples/$capture.pcap
-  "$program" replay "$example/scenario.json" "$traffic" "$work/$name" >"$work/$name.report" || { echo "failed: $example"; exit 1; }
-  same "$example/report.txt" "$work/$name.report" "the report of $example differs"
-  same "$example/trace.txt" "$work/$name.trace" "the trace of $example differs"
+for run in "lag scenario three-hosts/traffic" "offload scenario offload/traffic" "migration scenario migration/traffic" "migration lag migration/traffic"; do
+  read -r name scenario capture <<<"$run"
+  example=examples/$name traffic=examples/$capture.pcap out=$work/$name-$scenario
+  written=$example/$([ "$scenario" = scenario ] || echo "$scenario-")
+  "$program" replay "$example/$scenario.json" "$traffic" "$out" >"$out.report" || { echo "failed: $example"; exit 1; }
+  same "${written}report.txt" "$out.report" "the report of $example differs"
+  same "${written}trace.txt" "$out.trace" "the trace of $example differs"
   command -v python3 >/dev/null || continue
-  python3 scripts/model.py "$example/scenario.json" "$traffic" "$work/model" >/dev/null || { echo "failed: no captures are composed"; exit 1; }
+  python3 scripts/model.py "$example/$scenario.json" "$traffic" "$work/model" >/dev/null || { echo "failed: no captures are composed"; exit 1; }
   for kind in delivered underlay; do
-    cmp "$work/model.$kind.pcap" "$work/$name.$kind.pcap" || { echo "failed: the $kind capture of $example differs"; exit 1; }
+    cmp "$work/model.$kind.pcap" "$out.$kind.pcap" || { echo "failed: the $kind capture of $example differs"; exit 1; }
   done
 done
 echo "passed: the examples' reports, traces and captures are the ones written by hand and composed"

@@ -1,7 +1,8 @@
 #!/usr/bin/env python3
 """Writes scenarios and captures for `run.sh`: 8 hosts, 4 networks of 15 rules each (60 in all), 40 VMs, and captures of the frames that are asked for, of 100
 bytes each; the same with 64 hosts, with 4 and with 4,000 rules in networks that no frame is of, and with 4 and with 256 rules in each network of the frames;
-with a tick every 1,000 frames, at which no flow reaches the threshold, and at which all do; and 10,000 frames of 1,400 bytes.
+with a tick every 1,000 frames, at which no flow reaches the threshold, and at which all do; with 1,000 migrations over 64 hosts, each VM in a blackout for
+50 of 100 frames; and 10,000 frames of 1,400 bytes.
 
 Usage: make_input.py FOLDER FRAMES..
 """
@@ -20,7 +21,17 @@ def rule(net, r):
             "action": "allow" if r % 3 else "deny", "protocol": "tcp", "destination_ports": [port, port]}
 
 
-def scenario(hosts=HOSTS, rules=RULES, elsewhere=0, threshold=None):
+def moves(hosts):
+    """1,000 migrations, of one VM after the other to the next host, each with 50 frames before the blackout and 50 in it."""
+    items = []
+    for k in range(1000):
+        vm = k % VMS
+        items += [{"do": "send", "frames": 50}, {"do": "blackout", "vm": f"v{vm}", "host": (vm + k // VMS + 1) % hosts},
+                  {"do": "send", "frames": 50}, {"do": "resume", "vm": f"v{vm}"}]
+    return items
+
+
+def scenario(hosts=HOSTS, rules=RULES, elsewhere=0, threshold=None, moving=False):
     """Each of the networks of the VMs has so many rules, and 20 others, which have no VM, have so many together. With a threshold, 1,000 frames are sent a tick."""
     script = [{"do": "add_net", "net": 1 + n} for n in range(NETS + 20)]
     for v in range(VMS):
@@ -30,11 +41,12 @@ def scenario(hosts=HOSTS, rules=RULES, elsewhere=0, threshold=None):
     if threshold:
         ticks = [{"do": "send", "frames": 1000}, {"do": "tick"}] * 100
         return {"hosts": hosts, "gateways": 1, "threshold": threshold, "script": script + [{"do": "wait"}] + ticks}
-    return {"hosts": hosts, "gateways": 1, "script": script + [{"do": "wait"}, {"do": "send"}]}
+    return {"hosts": hosts, "gateways": 1, "script": script + [{"do": "wait"}] + (moves(hosts) if moving else [{"do": "send"}])}
 
 
 SCENARIOS = {"scenario": {}, "64-hosts": {"hosts": 64}, "4-elsewhere": {"elsewhere": 4}, "4000-elsewhere": {"elsewhere": 4000},
-             "4-rules": {"rules": 4}, "256-rules": {"rules": 256}, "ticks": {"threshold": 1_000_000}, "offloads": {"threshold": 500}}
+             "4-rules": {"rules": 4}, "256-rules": {"rules": 256}, "ticks": {"threshold": 1_000_000}, "offloads": {"threshold": 500},
+             "moves": {"hosts": 64, "moving": True}}
 
 
 def mac(v):

@@ -1,6 +1,6 @@
 #!/usr/bin/env bash
 # What a replay costs, in one run, with all that it writes: 1,000, 10,000 and 100,000 frames of 100 bytes over 8 hosts, 40 VMs and 60 rules in 4 networks, in
-# frames and events a second and peak memory; how the cost of a frame grows with frames, hosts, rules and ticks; 10,000 frames of 1,400 bytes; and the reading of the
+# frames and events a second and peak memory; how the cost of a frame grows with frames, hosts, rules, ticks and migrations; 10,000 frames of 1,400 bytes; and the reading of the
 # largest capture (a scenario without VMs, so that each frame is read and skipped) beside the plainest C. It needs the program that `rt run` or `rt ci` leaves
 # in crates/andromeda/out.
 set -u
@@ -41,6 +41,7 @@ grows "4,000 rules in other networks for 4" 4-elsewhere 100000 4000-elsewhere 10
 grows "256 rules in the packet's network for 4" 4-rules 100000 256-rules 100000
 grows "a tick every 1,000 frames for none, no flow over the threshold" scenario 100000 ticks 100000
 grows "a tick every 1,000 frames for none, all flows offloaded" scenario 100000 offloads 100000
+grows "1,000 migrations over 64 hosts for none" 64-hosts 100000 moves 100000
 echo "10000 frames of 1400 bytes: $(ms "$program" replay "$work/scenario.json" "$work/long.pcap" "$work/x") ms"
 ours=$(ms "$program" replay "$work/no-vms.json" "$work/100000.pcap" "$work/x") || exit 1
 c=$(ms "$work/read" "$work/100000.pcap") || exit 1

@@ -27,12 +27,11 @@ use Rattle.and_events.specs.State.{State, state, dest_endpoint, dest_net, node_a
 use Rattle.and_events.specs.Legal.{Legal, Decides, Departs, Sends}
 use Rattle.and_events.specs.Run.{Run}
 use Rattle.and_events.specs.Sound.{IsSound}
-use Rattle.and_built.specs.Built.{IsBuilt}
 use Rattle.and_laws.proofs.Offloading.{right_orders}
 use Rattle.and_kept.specs.Settling.{departs_end, departure_of, LeadsRouted, LeadsLeaving}
 use Rattle.and_book.specs.Settling.{leaving_said, egress_event}
 use Rattle.and_book.proofs.Ends.{Within, ends_at, sends_end}
-use Rattle.and_book.proofs.Carrying.{own_fits}
+use Rattle.and_book.proofs.Known.{own_fits}
 use Rattle.and_book.proofs.Leading.{known_entries, leads_by}
 use Rattle.and_book.proofs.Settled.{worker_node}
 
@@ -62,22 +61,22 @@ fits_dest gateways own x None fits known = fits
 fits_dest gateways own x (Some order) fits known = known order refl
 
 -- a live order leads to a host that is there, as the route leads there, and so does the flow hash to a gateway
-pub leads_leaving : (plan : Plan) (h : List Event) (a : Actor) (i at : ℕ) → IsSound plan → IsBuilt plan → Run plan h → IsActor plan.settings a → IsWorker a → LeadsLeaving plan.settings (source_net plan i) (leaving_said plan (state plan h) a i at)
-leads_leaving plan h a i at sound built r actor worker =
+pub leads_leaving : (plan : Plan) (h : List Event) (a : Actor) (i at : ℕ) → IsSound plan → Run plan h → IsActor plan.settings a → IsWorker a → LeadsLeaving plan.settings (source_net plan i) (leaving_said plan (state plan h) a i at)
+leads_leaving plan h a i at sound r actor worker =
     let p = programme_of plan (state plan h) (node_of a) in
     let k = prefix p at in
     let vm = (packet_at plan i).vm in
     let x = tuple_at plan i in
     let net = own_net (vm_of k vm) in
     let node = worker_node plan.settings a worker actor in
-    let known = known_entries plan h a at sound built r node in
+    let known = known_entries plan h a at sound r node in
     let leads : (order : Order) → live p at net x.destination ≡ Some order → (order.to_host < plan.settings.hosts) × (order.to_net < 2 ^ 24) =
     λ order is.
     let right = right_orders plan h sound r (node_of a) node at net x.destination order is in
     subst (LeadsRouted plan.settings) right.1 (leads_by plan k x.destination (route k net x.destination) known) in
     leads_exit plan.settings (source_net plan i) (egress k vm x) (dest_by plan.settings.gateways x (live p at net x.destination))
     (leads_dest plan.settings x (live p at net x.destination) sound.settings.gateways.0 (λ order is. (leads order is).0))
-    (fits_dest plan.settings.gateways (source_net plan i) x (live p at net x.destination) (own_fits plan i sound built) (λ order is. (leads order is).1))
+    (fits_dest plan.settings.gateways (source_net plan i) x (live p at net x.destination) (own_fits plan i sound) (λ order is. (leads order is).1))
 
 -- ---- legal
 

@@ -17,7 +17,7 @@ use Rattle.and_events.specs.declared.event.End.TheVariants.{Queued, Full, Hops}
 use Rattle.and_events.specs.declared.event.Endpoint.{Endpoint}
 use Rattle.and_events.specs.declared.event.Endpoint.TheVariants as endpoints
 use Rattle.and_events.specs.declared.event.Event.{Event}
-use Rattle.and_events.specs.declared.event.Event.TheVariants.{Egress, Route, Redirect, Ingress}
+use Rattle.and_events.specs.declared.event.Event.TheVariants.{Egress, Sealed, Route, Redirect, Ingress}
 use Rattle.and_events.specs.declared.event.Held.{Held}
 use Rattle.and_events.specs.declared.event.Node.{Node}
 use Rattle.and_events.specs.declared.event.Passage.{Passage}
@@ -99,6 +99,9 @@ module _ (v : Settings) (a i : ℕ) where
   arrives_from c (arrivals.Running vm by pass) = (refl, refl)
   arrives_from c (arrivals.Blackout vm) = (refl, refl)
 
+  pub sealed_from : (c : Carried) (end : End) → IsFrom a i (send v a i end c.target c.net)
+  sealed_from c end = send_from end c.target c.net
+
   pub gate_from : (f : Flow) (d : GateDecision) → IsFrom a i (gate_move v f a i d)
   gate_from f (decisions.Routed at said) = passes_from (passage_of v f i said)
   gate_from f (decisions.Located at said) = returns_from (carried_in f.carried i) (return_of v f i said)
@@ -114,6 +117,10 @@ module _ (plan : Plan) (s : State) (a : Actor) (i : ℕ) where
   gate_moves (decisions.Routed at said) = refl
   gate_moves (decisions.Located at said) = refl
 
+  pub sealed_moves : (end : End) → send plan.settings hand i end (carried_at s i).target (carried_at s i).net ≡ move_of plan s (Sealed a i end)
+  unfolding move_of
+  sealed_moves end = refl
+
   pub ingress_moves : (at : ℕ) (way : Way) (x : Arrival) → arrives plan.settings (carried_at s i) hand i x ≡ move_of plan s (Ingress a i at way x)
   unfolding move_of
   ingress_moves at way x = refl
@@ -124,9 +131,10 @@ module _ (plan : Plan) (s : State) (a : Actor) (i : ℕ) where
 
 -- ---- what is kept after a packet in hand is settled
 
--- the event settles a packet by a decision
+-- the event settles a packet
 abbrev pub Settles : Event → Type 0
 Settles (Egress a i at way d) = Unit {0}
+Settles (Sealed a i end) = Unit {0}
 Settles (Route a i at p) = Unit {0}
 Settles (Redirect a i at back) = Unit {0}
 Settles (Ingress a i at way arrival) = Unit {0}
@@ -146,12 +154,17 @@ pub record IsUsed (plan : Plan) (e : Event) (old new : ReviewsView) : Type 0 whe
 pub stands_settled : (plan : Plan) (s : State) (e : Event) (k : Kept) (roads : Roads) (reviews : ReviewsView) → Settles e → Stands k s → roads.held ≡ k.roads.held → roads.flow ≡ flow_after s.flow (move_of plan s e) → IsUsed plan e k.reviews reviews → Stands (record k { roads = roads; reviews = reviews }) (after plan s e)
 unfolding after holds_after word_of ports_move_of step_of programmes_after ports_after
 stands_settled plan s (Egress a i at way d) k roads reviews t st marks flow using = record { next = st.next; programmes = st.programmes; ports = st.ports; flow = flow; holds = ap (λ m. record { install = k.progress.held; forward = m }) marks ∙ st.holds; usage = using.used ∙ ap (λ us. usage_after us (usage_move_of plan (Egress a i at way d))) st.usage }
+stands_settled plan s (Sealed a i end) k roads reviews t st marks flow using = record { next = st.next; programmes = st.programmes; ports = st.ports; flow = flow; holds = ap (λ m. record { install = k.progress.held; forward = m }) marks ∙ st.holds; usage = using.used ∙ ap (λ us. usage_after us (usage_move_of plan (Sealed a i end))) st.usage }
 stands_settled plan s (Route a i at p) k roads reviews t st marks flow using = record { next = st.next; programmes = st.programmes; ports = st.ports; flow = flow; holds = ap (λ m. record { install = k.progress.held; forward = m }) marks ∙ st.holds; usage = using.used ∙ ap (λ us. usage_after us (usage_move_of plan (Route a i at p))) st.usage }
 stands_settled plan s (Redirect a i at back) k roads reviews t st marks flow using = record { next = st.next; programmes = st.programmes; ports = st.ports; flow = flow; holds = ap (λ m. record { install = k.progress.held; forward = m }) marks ∙ st.holds; usage = using.used ∙ ap (λ us. usage_after us (usage_move_of plan (Redirect a i at back))) st.usage }
 stands_settled plan s (Ingress a i at way arrival) k roads reviews t st marks flow using = record { next = st.next; programmes = st.programmes; ports = st.ports; flow = flow; holds = ap (λ m. record { install = k.progress.held; forward = m }) marks ∙ st.holds; usage = using.used ∙ ap (λ us. usage_after us (usage_move_of plan (Ingress a i at way arrival))) st.usage }
 stands_settled plan s e k roads reviews t st marks flow using = absurd t
 
 -- a packet that has left its VM uses nothing
+pub sealed_uses : (plan : Plan) (a : Actor) (i : ℕ) (end : End) (r : ReviewsView) → IsUsed plan (Sealed a i end) r r
+unfolding usage_move_of usage_after
+sealed_uses plan a i end r = record { used = refl; room = omega arith; known = refl }
+
 pub gate_uses : (plan : Plan) (v : Settings) (f : Flow) (a : Actor) (i : ℕ) (d : GateDecision) (r : ReviewsView) → IsUsed plan (gate_event v f a i d) r r
 unfolding usage_move_of usage_after
 gate_uses plan v f a i (decisions.Routed at said) r = record { used = refl; room = omega arith; known = refl }

@@ -1,4 +1,4 @@
--- Where the policy's words lead in a built plan.
+-- Where the policy's words lead in a plan.
 use Rattle.std.proofs.Common.{◌≡◌, ℕ, zero, suc, ◌<◌, ◌≤◌, ◌^◌, ◌==◌, ◌&&◌, true, false, List, [], ◌∷◌, take, refl, sym, subst, arith, Option, Some, None}
 use Rattle.std.specs.Prelude.{if◌then◌else◌, option_map}
 use Rattle.std.specs.List.{All, find, list_any}
@@ -25,7 +25,6 @@ use Rattle.and_events.specs.State.{State, state, programme_of}
 use Rattle.and_events.specs.Legal.{entries_at}
 use Rattle.and_events.specs.Run.{Run}
 use Rattle.and_events.specs.Sound.{IsSound}
-use Rattle.and_built.specs.Built.{IsBuilt}
 use Rattle.and_laws.proofs.Programmed.{programmed}
 use Rattle.and_kept.specs.Settling.{LeadsRouted, LeadsLocated, LeadsGate}
 use Rattle.and_book.specs.Settling.{IsGateDecision}
@@ -113,10 +112,10 @@ taken P (ops.Entry e ∷ p) (suc j) all =
 taken P (ops.Offload o ∷ p) (suc j) all = taken P p j all
 
 -- the entries behind a decision are known
-pub known_entries : (plan : Plan) (h : List Event) (a : Actor) (at : ℕ) → IsSound plan → IsBuilt plan → Run plan h → IsNode plan.settings (node_of a) → All (IsKnown plan) (entries_at plan (state plan h) a at)
-known_entries plan h a at sound built r there =
+pub known_entries : (plan : Plan) (h : List Event) (a : Actor) (at : ℕ) → IsSound plan → Run plan h → IsNode plan.settings (node_of a) → All (IsKnown plan) (entries_at plan (state plan h) a at)
+known_entries plan h a at sound r there =
     taken (IsKnown plan) (programme_of plan (state plan h) (node_of a)) at
-    (subst (All (IsKnown plan)) (sym (programmed plan h r (node_of a) there).log) (known_log plan h sound built r))
+    (subst (All (IsKnown plan)) (sym (programmed plan h r (node_of a) there).log) (known_log plan h sound r))
 
 -- ---- words
 

@@ -8,7 +8,6 @@ pub mod Moved
 pub mod Ends
 pub mod Injecting
 pub mod Leading
-pub mod Open
 pub mod Settled
 pub mod Arriving
 pub mod Unsent

@@ -10,7 +10,6 @@ use Rattle.std.proofs.lemmas.List.Folds.{sum_by-replicate}
 use Rattle.and_policy.specs.declared.port.Port.TheVariants.{Absent}
 use Rattle.and_events.specs.declared.event.Held.{Held}
 use Rattle.and_events.specs.Sound.{IsSound}
-use Rattle.and_built.specs.Built.{IsBuilt}
 use Rattle.and_kept.specs.Lanes.{unsent}
 use Rattle.and_events.specs.declared.event.Event.{Event}
 use Rattle.and_events.specs.declared.event.Line.{Line}
@@ -77,7 +76,6 @@ keeps_more plan threads lines lines' k k' spare spare' seat e keeps legal seated
     let stands : Stands k' (state plan (past lines')) = subst (Stands k') (state_more plan e (past lines) (past lines') g) follows.stands in
     record {
       sound = keeps.sound;
-      built = keeps.built;
       run = run_more plan e (past lines) (past lines') g keeps.run legal;
       seats = subst (All (λ (x : Line). x.seat ≡ seat_of threads plan.settings (actor_of x.event))) (sym longer)
           (All-push (λ (x : Line). x.seat ≡ seat_of threads plan.settings (actor_of x.event)) lines l keeps.seats seated);
@@ -140,17 +138,16 @@ no_hand = None
 none_held : (n : ℕ) → count_by is_some (replicate n no_hand) ≡ 0
 none_held n = omega (arith, sum_by-replicate (λ (h : Option Held). cond (is_some h) 1 0) n no_hand)
 
-pub keeps_start : (plan : Plan) (threads : ℕ) (lines : List Line) (k : Kept) (spare vms nodes packets : ℕ) → IsSound plan → IsBuilt plan → lines ≡ [] → k.next ≡ 0 → nodes ≡ node_count plan.settings → vms ≡ length plan.names → packets ≡ length plan.packets
+pub keeps_start : (plan : Plan) (threads : ℕ) (lines : List Line) (k : Kept) (spare vms nodes packets : ℕ) → IsSound plan → lines ≡ [] → k.next ≡ 0 → nodes ≡ node_count plan.settings → vms ≡ length plan.names → packets ≡ length plan.packets
     → k.progress.programmes ≡ record { log = []; ops = replicate nodes []; announced = replicate nodes 0; installed = replicate nodes 0 }
     → k.ports ≡ replicate vms (replicate plan.settings.hosts Absent)
     → k.roads.flow ≡ record { queues = replicate (queue_count plan.settings) []; hands = replicate (hand_count plan.settings) None; carried = replicate packets (unsent plan.settings) }
     → k.progress.held ≡ replicate nodes false → k.roads.held ≡ replicate (node_count plan.settings) false → k.reviews.used ≡ [] → IsSized plan k → HasParcels plan [] k.roads → HasReviews plan k → HasPins plan k → Keeps plan threads lines k spare
-keeps_start plan threads lines k spare vms nodes packets sound built none zero n v p programmes ports flow installs forwards used sized parcels reviews pins =
+keeps_start plan threads lines k spare vms nodes packets sound none zero n v p programmes ports flow installs forwards used sized parcels reviews pins =
     let st : Stands k (state plan []) = subst (Stands k) (start_is plan) (stands_start plan k vms nodes packets zero n v p programmes ports flow installs forwards used) in
     subst (λ ls. Keeps plan threads ls k spare) (sym none)
     (record {
       sound = sound;
-      built = built;
       run = run_none plan;
       seats = All-nil (λ (x : Line). x.seat ≡ seat_of threads plan.settings (actor_of x.event));
       stands = st;

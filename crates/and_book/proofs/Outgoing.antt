@@ -13,6 +13,7 @@ use Rattle.and_policy.specs.FlowHash.{flow_hash}
 use Rattle.and_policy.specs.Outer.{outer_packet, entropy_port}
 use Rattle.and_parcel.specs.Parcels.{ParcelView, wire_of}
 use Rattle.and_events.specs.declared.event.Actor.{Actor}
+use Rattle.and_events.specs.declared.event.Carried.{Carried}
 use Rattle.and_events.specs.declared.event.Endpoint.{Endpoint}
 use Rattle.and_events.specs.declared.event.Event.{Event}
 use Rattle.and_events.specs.declared.event.Event.TheVariants.{Append, Review, Hold, Free, Inject, Wait, Blackout, Resume, Finish, Announce, Installed, Take, Unpin}
@@ -30,7 +31,6 @@ use Rattle.and_events.specs.State.{State, state, move_of, tuple_at, frame_at, ca
 use Rattle.and_events.specs.Legal.{Legal}
 use Rattle.and_events.specs.Run.{Run, sends}
 use Rattle.and_events.specs.Sound.{IsSound}
-use Rattle.and_built.specs.Built.{IsBuilt}
 use Rattle.and_laws.specs.Stages.{count_in}
 use Rattle.and_laws.proofs.Fates.{each_has_one}
 use Rattle.and_laws.proofs.Injected.{injected_once}
@@ -45,7 +45,7 @@ use Rattle.and_book.specs.Inside.{HasParcels}
 use Rattle.and_book.specs.Outers.{IsNewest, IsSentBy}
 use Rattle.and_kept.specs.Outers.{wrapped, parcels_moved}
 use Rattle.and_book.specs.Views.{IsPacket}
-use Rattle.and_book.proofs.Carrying.{IsPlainMove, event_plain, plain_flow}
+use Rattle.and_book.proofs.Carrying.{MoveFits, event_fits, nets_fit}
 use Rattle.and_book.proofs.Injecting.{all_with, all_entered}
 use Rattle.and_book.proofs.Taking.{all_without_first, first_of}
 
@@ -173,21 +173,21 @@ envelope_is : (s s' d t t' v o o' : ℕ) (b b' : Bool) → s ≡ s' → t ≡ t'
 envelope_is s s' d t t' v o o' b b' es et eo eb frame frame' ef = rw (es, et, eo, eb, ef) refl
 
 -- what is known of a packet that is settled
-pub record Facts (plan : Plan) (h : List Event) (e : Event) (p : ParcelView) (here : Node) (x : Tuple) (hops : ℕ) : Type 0 where
+pub record Facts (plan : Plan) (h : List Event) (e : Event) (p : ParcelView) (here : Node) (x : Tuple) (known : Carried) : Type 0 where
   pub node : here ≡ node_of (actor_of e)
   pub tuple : x ≡ tuple_at plan p.packet
-  pub left : sends plan h p.packet + hops ≡ plan.settings.hop_limit
-  pub unsealed : (carried_at (state plan h) p.packet).sealed ≡ false
+  pub left : sends plan h p.packet + known.hops ≡ plan.settings.hop_limit
+  pub mark : known.sealed ≡ (carried_at (state plan h) p.packet).sealed
   pub packet : IsPacket plan p
   pub nowhere : (q : ℕ) → q < length (state plan h).flow.queues → count_in p.packet (queue_at (state plan h).flow.queues q) ≡ 0
 
-module _ (plan : Plan) (h : List Event) (e : Event) (p : ParcelView) (here : Node) (x : Tuple) (hops : ℕ) (f : Facts plan h e p here x hops) where
-  new_sent : (a q j net : ℕ) (target : Endpoint) → move_of plan (state plan h) e ≡ Send a q j net target → j ≡ p.packet → IsSentBy plan (e ∷ h) (wrapped here x hops p net target)
+module _ (plan : Plan) (h : List Event) (e : Event) (p : ParcelView) (here : Node) (x : Tuple) (known : Carried) (f : Facts plan h e p here x known) where
+  new_sent : (a q j net : ℕ) (target : Endpoint) → move_of plan (state plan h) e ≡ Send a q j net target → j ≡ p.packet → IsSentBy plan (e ∷ h) (wrapped here x known p net target)
   unfolding sends_of
   new_sent a q j net target is of =
       let here_is = node_of (actor_of e) in
       let some : List ℕ → Option (List ℕ) = Some in
-      let ttl : hops ≡ plan.settings.hop_limit - sends plan h j = omega (arith, f.left, ap (sends plan h) of) in
+      let ttl : known.hops ≡ plan.settings.hop_limit - sends plan h j = omega (arith, f.left, ap (sends plan h) of) in
       let sent : Sent = record {
         packet = j;
         outer = record {
@@ -202,10 +202,10 @@ module _ (plan : Plan) (h : List Event) (e : Event) (p : ParcelView) (here : Nod
       let sents : sends_of plan (e ∷ h) ≡ sends_of plan h ++ sent ∷ [] = ap (λ y. with_sent (sends_of plan h) (sent_by_move plan h here_is y)) is in
       let last : IsNewest (sends_of plan h ++ sent ∷ []) p.packet (length (sends_of plan h)) sent =
       subst (λ i. IsNewest (sends_of plan h ++ sent ∷ []) i (length (sends_of plan h)) sent) of (newest_last (sends_of plan h) sent) in
-      let bytes : sent_bytes plan sent ≡ wire_of (wrapped here x hops p net target) =
+      let bytes : sent_bytes plan sent ≡ wire_of (wrapped here x known p net target) =
       sym (envelope_is _ _ (endpoint_address target) _ _ net _ _ _ _ (ap source_address f.node) ttl
       (ap (λ t. entropy_port (flow_hash t)) (f.tuple ∙ ap (tuple_at plan) (sym of)))
-      (sym (ap (λ k. (carried_at (state plan h) k).sealed) of ∙ f.unsealed)) _ _ (f.packet.frame ∙ ap (frame_at plan) (sym of))) in
+      (f.mark ∙ ap (λ k. (carried_at (state plan h) k).sealed) (sym of)) _ _ (f.packet.frame ∙ ap (frame_at plan) (sym of))) in
       record {
         t = length (sends_of plan h);
         sent = sent;
@@ -223,10 +223,15 @@ IsOf i _ = ⊥
 
 -- ---- a settled packet
 
-module _ (plan : Plan) (h : List Event) (e : Event) (p : ParcelView) (here : Node) (x : Tuple) (hops : ℕ) (f : Facts plan h e p here x hops) (roads : Roads) (all : HasParcels plan h roads) (stands : roads.flow ≡ (state plan h).flow) (sized : length (state plan h).flow.queues ≡ queue_count plan.settings) where
-  packets_moved : (m : Move) → All (λ ps. All (IsPacket plan) ps) (parcels_moved here x hops roads.parcels p m)
+-- the `wire` queues stand after the others
+wire_after : (v : Settings) (node : Node) → 2 * v.hosts ≤ queue_place v node Wire
+wire_after v (Host h) = omega arith
+wire_after v (Gate g) = omega arith
+
+module _ (plan : Plan) (h : List Event) (e : Event) (p : ParcelView) (here : Node) (x : Tuple) (known : Carried) (f : Facts plan h e p here x known) (roads : Roads) (all : HasParcels plan h roads) (stands : roads.flow ≡ (state plan h).flow) (sized : length (state plan h).flow.queues ≡ queue_count plan.settings) where
+  packets_moved : (m : Move) → All (λ ps. All (IsPacket plan) ps) (parcels_moved here x known roads.parcels p m)
   packets_moved (Send a q j net target) =
-      all_with (IsPacket plan) roads.parcels q (wrapped here x hops p net target) (record { frame = f.packet.frame; vm = f.packet.vm }) all.packets
+      all_with (IsPacket plan) roads.parcels q (wrapped here x known p net target) (record { frame = f.packet.frame; vm = f.packet.vm }) all.packets
   packets_moved (SealLater a q j net target) = all_with (IsPacket plan) roads.parcels q p f.packet all.packets
   packets_moved Stay = all.packets
   packets_moved (Enter q j) = all.packets
@@ -234,10 +239,10 @@ module _ (plan : Plan) (h : List Event) (e : Event) (p : ParcelView) (here : Nod
   packets_moved (Grab a q g) = all.packets
   packets_moved (Stop a j) = all.packets
 
-  numbers_moved : (m : Move) → IsOf p.packet m → numbers_of (parcels_moved here x hops roads.parcels p m) ≡ (flow_after roads.flow m).queues
+  numbers_moved : (m : Move) → IsOf p.packet m → numbers_of (parcels_moved here x known roads.parcels p m) ≡ (flow_after roads.flow m).queues
   unfolding flow_after
   numbers_moved (Send a q j net target) of =
-      numbers_with roads.parcels q (wrapped here x hops p net target)
+      numbers_with roads.parcels q (wrapped here x known p net target)
       ∙ (ap (λ qs. pushed qs q p.packet) all.numbers ∙ ap (pushed roads.flow.queues q) (sym of))
   numbers_moved (SealLater a q j net target) of =
       numbers_with roads.parcels q p ∙ (ap (λ qs. pushed qs q p.packet) all.numbers ∙ ap (pushed roads.flow.queues q) (sym of))
@@ -256,29 +261,33 @@ module _ (plan : Plan) (h : List Event) (e : Event) (p : ParcelView) (here : Nod
       ap (λ g. queue_at g.queues w) (sym stands) ∙ (ap (λ qs. queue_at qs w) (sym all.numbers) ∙ numbers_at roads.parcels w) in
       ap (count_in j) (sym queue) ∙ (ap (λ i. count_in i (queue_at (state plan h).flow.queues w)) of ∙ f.nowhere w within)
 
-  outers_moved : (m : Move) → move_of plan (state plan h) e ≡ m → IsOf p.packet m → IsPlainMove m → (node : Node) → IsNode plan.settings node → All (IsSentBy plan (e ∷ h)) (parcels_at (parcels_moved here x hops roads.parcels p m) (queue_place plan.settings node Wire))
-  outers_moved (Send a q j net target) is of plain node there =
+  outers_moved : (m : Move) → move_of plan (state plan h) e ≡ m → IsOf p.packet m → MoveFits plan.settings m → (node : Node) → IsNode plan.settings node → All (IsSentBy plan (e ∷ h)) (parcels_at (parcels_moved here x known roads.parcels p m) (queue_place plan.settings node Wire))
+  outers_moved (Send a q j net target) is of fits node there =
       let w = queue_place plan.settings node Wire in
       let old = all_kept plan h e (Send a q j net target) is (parcels_at roads.parcels w) (none_in_wire node there j of) (all.outers node there) in
-      let new = wrapped here x hops p net target in
+      let new = wrapped here x known p net target in
       set_at roads.parcels q w (parcels_at roads.parcels q ++ new ∷ []) [] (All (IsSentBy plan (e ∷ h))) old
       (λ same. All-push (IsSentBy plan (e ∷ h)) (parcels_at roads.parcels q) new
-      (subst (λ k. All (IsSentBy plan (e ∷ h)) (parcels_at roads.parcels k)) (sym same) old) (new_sent plan h e p here x hops f a q j net target is of))
-  outers_moved (Stop a j) is of plain node there =
+      (subst (λ k. All (IsSentBy plan (e ∷ h)) (parcels_at roads.parcels k)) (sym same) old) (new_sent plan h e p here x known f a q j net target is of))
+  outers_moved (Stop a j) is of fits node there =
       all_kept plan h e (Stop a j) is (parcels_at roads.parcels (queue_place plan.settings node Wire)) tt (all.outers node there)
-  outers_moved (SealLater a q j net target) is of plain node there = absurd plain
-  outers_moved Stay is of plain node there = absurd of
-  outers_moved (Enter q j) is of plain node there = absurd of
-  outers_moved (Lose j) is of plain node there = absurd of
-  outers_moved (Grab a q g) is of plain node there = absurd of
+  outers_moved (SealLater a q j net target) is of fits node there =
+      let w = queue_place plan.settings node Wire in
+      let old = all_kept plan h e (SealLater a q j net target) is (parcels_at roads.parcels w) tt (all.outers node there) in
+      set_at roads.parcels q w (parcels_at roads.parcels q ++ p ∷ []) [] (All (IsSentBy plan (e ∷ h))) old
+      (λ same. let apart : ⊥ = omega (arith, wire_after plan.settings node, fits.1, same) in absurd apart)
+  outers_moved Stay is of fits node there = absurd of
+  outers_moved (Enter q j) is of fits node there = absurd of
+  outers_moved (Lose j) is of fits node there = absurd of
+  outers_moved (Grab a q g) is of fits node there = absurd of
 
-  pub settled : (roads' : Roads) (m : Move) → move_of plan (state plan h) e ≡ m → IsOf p.packet m → IsPlainMove m → roads'.flow ≡ flow_after roads.flow m → roads'.parcels ≡ parcels_moved here x hops roads.parcels p m → HasParcels plan (e ∷ h) roads'
-  settled roads' m is of plain flow parcels =
+  pub settled : (roads' : Roads) (m : Move) → move_of plan (state plan h) e ≡ m → IsOf p.packet m → MoveFits plan.settings m → roads'.flow ≡ flow_after roads.flow m → roads'.parcels ≡ parcels_moved here x known roads.parcels p m → HasParcels plan (e ∷ h) roads'
+  settled roads' m is of fits flow parcels =
       record {
         packets = subst (All (λ ps. All (IsPacket plan) ps)) (sym parcels) (packets_moved m);
         numbers = ap numbers_of parcels ∙ (numbers_moved m of ∙ ap (λ (g : Flow). g.queues) (sym flow));
         outers = λ node there. subst (λ ps. All (IsSentBy plan (e ∷ h)) (parcels_at ps (queue_place plan.settings node Wire))) (sym parcels)
-            (outers_moved m is of plain node there);
+            (outers_moved m is of fits node there);
       }
 
 -- a packet in hand is in no queue
@@ -313,10 +322,6 @@ taken plan h e roads roads' hand from a q g held is flow parcels all =
           (λ same. All-drop (IsSentBy plan (e ∷ h)) 1 (parcels_at roads.parcels from)
           (subst (λ k. All (IsSentBy plan (e ∷ h)) (parcels_at roads.parcels k)) (sym same) old)));
     }
-
-wire_after : (v : Settings) (node : Node) → 2 * v.hosts ≤ queue_place v node Wire
-wire_after v (Host h) = omega arith
-wire_after v (Gate g) = omega arith
 
 numbers_entered : (parcels : List (List ParcelView)) (f : Flow) (q : ℕ) (p : ParcelView) (full : Bool) → numbers_of parcels ≡ f.queues → numbers_of (cond full parcels (with_parcel parcels q p)) ≡ (flow_after f (enter_by q p.packet full)).queues
 unfolding flow_after
@@ -364,26 +369,26 @@ none_yet plan roads n parcels queues =
 
 -- the packet in a hand is settled by an event
 pub settles : (plan : Plan) (h : List Event) (e : Event) (a : Actor) (need : ℕ) (q : Queue) (p : ParcelView) (here : Node) (x : Tuple) (m : Move) (roads roads' : Roads) →
-    IsSound plan → IsBuilt plan → Run plan h → Legal plan (state plan h) e → IsPacket plan p
+    IsSound plan → Run plan h → Legal plan (state plan h) e → IsPacket plan p
     → hand_at (state plan h).flow.hands (hand_place plan.settings a) ≡ Some (record { packet = p.packet; need = need; queue = q })
     → roads.flow ≡ (state plan h).flow → here ≡ node_of (actor_of e) → x ≡ tuple_at plan p.packet → m ≡ move_of plan (state plan h) e → IsOf p.packet m
-    → roads'.flow ≡ flow_after roads.flow m → roads'.parcels ≡ parcels_moved here x (carried_in roads.flow.carried p.packet).hops roads.parcels p m
+    → roads'.flow ≡ flow_after roads.flow m → roads'.parcels ≡ parcels_moved here x (carried_in roads.flow.carried p.packet) roads.parcels p m
     → HasParcels plan h roads → HasParcels plan (e ∷ h) roads'
-settles plan h e a need q p here x m roads roads' sound built r legal ok has stands node tuple move of flow parcels all =
+settles plan h e a need q p here x m roads roads' sound r legal ok has stands node tuple move of flow parcels all =
     let i = p.packet in
     let g : Held = record { packet = i; need = need; queue = q } in
-    let plain = plain_flow plan h sound built r in
+    let nets = nets_fit plan h sound r in
     let left = hops_left plan h r i (held_is_known plan h (hand_place plan.settings a) i sound r (g, has, refl)) in
-    let facts : Facts plan h e p here x (carried_in roads.flow.carried i).hops = record {
+    let facts : Facts plan h e p here x (carried_in roads.flow.carried i) = record {
       node = node;
       tuple = tuple;
       left = ap (λ (f : Flow). sends plan h i + (carried_in f.carried i).hops) stands ∙ left;
-      unsealed = (plain i).sealed;
+      mark = ap (λ (f : Flow). (carried_in f.carried i).sealed) stands;
       packet = ok;
       nowhere = nowhere plan h a i need q sound r has;
     } in
-    settled plan h e p here x (carried_in roads.flow.carried i).hops facts roads all stands (sizes plan h).queues roads' m (sym move) of
-    (subst IsPlainMove (sym move) (event_plain plan h sound built r e legal plain)) flow parcels
+    settled plan h e p here x (carried_in roads.flow.carried i) facts roads all stands (sizes plan h).queues roads' m (sym move) of
+    (subst (MoveFits plan.settings) (sym move) (event_fits plan h sound r e legal nets)) flow parcels
 
 -- ---- events that move no packet
 
@@ -428,8 +433,8 @@ hops_fit plan h f a i need q sound r has stands =
     let left = hops_left plan h r i (held_is_known plan h (hand_place plan.settings a) i sound r (g, has, refl)) in
     omega (arith, left, sound.settings.hop_limit.1, ap (λ (f : Flow). (carried_in f.carried i).hops) stands)
 
-pub net_fits : (plan : Plan) (h : List Event) (f : Flow) (i : ℕ) → IsSound plan → IsBuilt plan → Run plan h → f ≡ (state plan h).flow → (carried_in f.carried i).net < 2 ^ 24
-net_fits plan h f i sound built r stands = subst (λ (f : Flow). (carried_in f.carried i).net < 2 ^ 24) (sym stands) (plain_flow plan h sound built r i).net
+pub net_fits : (plan : Plan) (h : List Event) (f : Flow) (i : ℕ) → IsSound plan → Run plan h → f ≡ (state plan h).flow → (carried_in f.carried i).net < 2 ^ 24
+net_fits plan h f i sound r stands = subst (λ (f : Flow). (carried_in f.carried i).net < 2 ^ 24) (sym stands) (nets_fit plan h sound r i)
 
 -- what is taken from `wire` has the bytes of its packet's newest send
 pub first_sent : (plan : Plan) (h : List Event) (roads : Roads) (node : Node) (q : Queue) (from : ℕ) (p : ParcelView) → HasParcels plan h roads → IsNode plan.settings node → from ≡ queue_place plan.settings node q → q ≡ Wire → slice_get (parcels_at roads.parcels from) 0 ≡ Some p → IsSentBy plan h p

@@ -1,5 +1,5 @@
--- A packet that a gateway's decision settles: the event is legal.
-use Rattle.std.proofs.Common.{◌≡◌, ℕ, length, refl, subst}
+-- A packet that a gateway's decision or a coprocessor settles: the event is legal.
+use Rattle.std.proofs.Common.{◌≡◌, ℕ, ◌<◌, length, refl, subst, arith}
 use Rattle.and_policy.specs.declared.decision.GateDecision.{GateDecision}
 use Rattle.and_policy.specs.declared.decision.GateDecision.TheVariants as decisions
 use Rattle.and_policy.specs.declared.decision.Name.{Name}
@@ -14,11 +14,11 @@ use Rattle.and_events.specs.declared.event.End.TheVariants.{Queued, Full, Hops}
 use Rattle.and_events.specs.declared.event.Endpoint.TheVariants as endpoints
 use Rattle.and_events.specs.declared.plan.Plan.{Plan}
 use Rattle.and_events.specs.declared.plan.Settings.{Settings}
-use Rattle.and_events.specs.Places.{queue_count, node_of, actor_of, IsNode, IsActor, IsWorker, IsGatewayWorker, Handles}
-use Rattle.and_events.specs.State.{State}
+use Rattle.and_events.specs.Places.{queue_count, node_of, actor_of, IsNode, IsActor, IsWorker, IsGatewayWorker, IsCoprocessor, Handles}
+use Rattle.and_events.specs.State.{State, node_at, carried_at}
 use Rattle.and_events.specs.Legal.{Legal, Sends, Passes, GoesBack}
 use Rattle.and_kept.specs.Settling.{end_to, passage_by, passage_of, return_by, return_of, LeadsRouted, LeadsLocated, LeadsGate, gate_event}
-use Rattle.and_book.specs.Settling.{MaySettleGateway}
+use Rattle.and_book.specs.Settling.{MaySettleGateway, MaySeal, sealed_event}
 use Rattle.and_book.proofs.Ends.{Within, sends_end}
 
 -- ---- legal at a gateway
@@ -92,3 +92,23 @@ worker_handles (GateInstall g) worker = absurd worker
 worker_handles (Coproc h) worker = absurd worker
 worker_handles Controller worker = absurd worker
 worker_handles Driver worker = absurd worker
+
+pub coproc_handles : (a : Actor) → IsCoprocessor a → Handles a
+coproc_handles (Coproc h) is = tt
+coproc_handles (Worker h w) is = absurd is
+coproc_handles (HostInstall h) is = absurd is
+coproc_handles (GateInstall g) is = absurd is
+coproc_handles (Gateway g) is = absurd is
+coproc_handles Controller is = absurd is
+coproc_handles Driver is = absurd is
+
+-- ---- legal at a coprocessor
+
+-- a packet in a coprocessor's hand has a hop left, so its send ends in a queue
+pub legal_sealed : (plan : Plan) (s : State) (a : Actor) (i : ℕ) → MaySeal plan s a i → 0 < (carried_at s i).hops → IsNode plan.settings (node_at (carried_at s i).target)
+    → length s.flow.queues ≡ queue_count plan.settings → Within plan s → Legal plan s (sealed_event plan.settings s.flow a i)
+unfolding Legal
+legal_sealed plan s a i may hops there sized w =
+    let target = (carried_at s i).target in
+    let sends = sends_end plan s i target there sized w in
+    (may.actor, may.coprocessor, (may.need, may.holds), (λ e. let none : (carried_at s i).hops ≡ 0 = subst (Sends plan s i target) e sends in omega (arith, none, hops)), sends)

@@ -88,6 +88,6 @@ module _ (plan : Plan) (threads : ℕ) (lines : List Line) (k : Kept) (spare : �
         known = using.known;
         pins = pins_stay plan k (record k { roads = roads'; reviews = reviews' }) refl refl refl (omega arith);
       })
-      (settles plan (past lines) e a need q p (node_of from.actor) from.tuple m k.roads roads' keeps.sound keeps.built keeps.run legal ok has keeps.stands.flow node
+      (settles plan (past lines) e a need q p (node_of from.actor) from.tuple m k.roads roads' keeps.sound keeps.run legal ok has keeps.stands.flow node
       (ap (λ (f : Holder). f.tuple) is) move (of_from (hand_place plan.settings a) p.packet m by) refl refl keeps.parcels)
       (omega (arith, less, keeps.held, fits))

@@ -15,7 +15,6 @@ use Rattle.and_events.specs.Ports.{port_at}
 use Rattle.and_events.specs.State.{State, NodeHolds, state}
 use Rattle.and_events.specs.Run.{Run, past}
 use Rattle.and_events.specs.Sound.{IsSound}
-use Rattle.and_built.specs.Built.{IsBuilt}
 use Rattle.and_events.specs.Usage.{orders_of}
 use Rattle.and_laws.specs.Fates.{in_hand_count}
 use Rattle.and_laws.specs.Sizes.{HasSizes, HasNodes}
@@ -95,7 +94,6 @@ pub record HasParcels (plan : Plan) (h : List Event) (roads : Roads) : Type 0 wh
 -- the lines are a run of the plan, each with the seat of its actor, and what is kept is the state after them
 pub record Keeps (plan : Plan) (threads : ℕ) (lines : List Line) (k : Kept) (spare : ℕ) : Type 0 where
   pub sound : IsSound plan
-  pub built : IsBuilt plan
   pub run : Run plan (past lines)
   pub seats : All (λ l. l.seat ≡ seat_of threads plan.settings (actor_of l.event)) lines
   pub stands : Stands k (state plan (past lines))

@@ -1,5 +1,5 @@
--- When a packet in hand may be settled: the decision is the policy's.
-use Rattle.std.specs.Prelude.{◌≡◌, ℕ}
+-- When a packet in hand may be settled: the decision is the policy's, or a coprocessor sends it as it was decided before.
+use Rattle.std.specs.Prelude.{◌≡◌, ℕ, Some}
 use Rattle.and_policy.specs.declared.decision.Leaving.{Leaving}
 use Rattle.and_policy.specs.declared.decision.GateDecision.{GateDecision}
 use Rattle.and_policy.specs.declared.decision.GateDecision.TheVariants as decisions
@@ -16,14 +16,16 @@ use Rattle.and_events.specs.declared.event.Actor.{Actor}
 use Rattle.and_events.specs.declared.event.Departure.{Departure}
 use Rattle.and_events.specs.declared.event.Departure.TheVariants.{Allowed}
 use Rattle.and_events.specs.declared.event.Event.{Event}
-use Rattle.and_events.specs.declared.event.Event.TheVariants.{Egress, Ingress}
-use Rattle.and_events.specs.declared.event.Queue.TheVariants.{Out, Wire}
+use Rattle.and_events.specs.declared.event.Event.TheVariants.{Egress, Ingress, Sealed}
+use Rattle.and_events.specs.declared.event.Queue.TheVariants.{Out, Wire, Seal}
 use Rattle.and_events.specs.declared.plan.Plan.{Plan}
-use Rattle.and_events.specs.Places.{node_of, IsWorker, IsGatewayWorker}
+use Rattle.and_events.specs.declared.plan.Settings.{Settings}
+use Rattle.and_events.specs.Flow.{Flow, carried_in, hand_at}
+use Rattle.and_events.specs.Places.{hand_place, node_of, IsActor, IsWorker, IsGatewayWorker, IsCoprocessor}
 use Rattle.and_events.specs.State.{State, carried_at, packet_at, tuple_at, programme_of, host_of}
 use Rattle.and_events.specs.Legal.{Decides, entries_at, IsRouteTarget, IsRedirectTarget}
 use Rattle.and_events.specs.Usage.{UsageMove, Unused, Uses}
-use Rattle.and_kept.specs.Settling.{arrival_of, departure_of}
+use Rattle.and_kept.specs.Settling.{arrival_of, departure_of, end_to}
 
 -- the number by which it was decided
 abbrev pub gate_number : GateDecision → ℕ
@@ -93,3 +95,16 @@ IsLeaving _ = ⊥
 abbrev pub use_of : UsageKey → ℕ → Departure → UsageMove
 use_of key bytes (Allowed by sealed dest end) = Uses key bytes
 use_of key bytes _ = Unused
+
+-- ---- at a host, where a packet is sealed
+
+-- the coprocessor has the packet in hand from `seal`
+pub record MaySeal (plan : Plan) (s : State) (a : Actor) (i : ℕ) : Type 0 where
+  pub actor : IsActor plan.settings a
+  pub coprocessor : IsCoprocessor a
+  pub need : ℕ
+  pub holds : hand_at s.flow.hands (hand_place plan.settings a) ≡ Some (record { packet = i; need = need; queue = Seal })
+
+-- its send goes where the packet's egress was decided to lead
+abbrev pub sealed_event : Settings → Flow → Actor → ℕ → Event
+sealed_event v f a i = Sealed a i (end_to v f i (carried_in f.carried i).target)

@@ -5,7 +5,6 @@ ghost use Rattle.std.specs.Vec.{vec_len, vec_capacity};
 ghost use Rattle.and_events.specs.Places.{actor_of, seat_of};
 ghost use Rattle.and_events.specs.Run.{Run, past};
 ghost use Rattle.and_events.specs.Sound.{IsSound};
-ghost use Rattle.and_built.specs.Built.{IsBuilt};
 ghost use Rattle.and_laws.specs.Fates.{HasOneFateOrPlace};
 ghost use Rattle.and_book.specs.Tales.{newest_first, KeepSeats};
 ghost use Rattle.and_book.specs.Views.{held};
@@ -71,7 +70,6 @@ impl Book {
     /// threads: the seat of an actor is 1 + its number modulo `threads`. 0 means no threads, and then every actor has seat 0.
     pub fn make(alloc: Global, plan: Plan, threads: u32) -> Result<Book, NoMemory>
         requires sound { IsSound plan }
-        requires built { IsBuilt plan }
         ensures plan { IfOk result (λ b. b.plan ≡ plan) }
         ensures threads { IfOk result (λ b. b.threads ≡ threads) }
         ensures lines { IfOk result (λ b. b.lines ≡ []) }
@@ -143,11 +141,10 @@ impl Book {
         let _ = &self.plan;
     }
 
-    /// What is true of every book: its lines are a legal run of its plan, which is sound and of what the program runs so far; and
-    /// the turn lock can count them.
+    /// What is true of every book: its lines are a legal run of its plan, which is sound; and the turn
+    /// lock can count them.
     pub fn is_run(&self)
         ensures sound { IsSound self.now.plan }
-        ensures built { IsBuilt self.now.plan }
         ensures run { Run self.now.plan (past self.now.lines) }
         ensures few { length self.now.lines < 2 ^ 63 }
     {

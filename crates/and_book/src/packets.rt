@@ -8,7 +8,7 @@ ghost use Rattle.and_kept.specs.Moves.{source_in};
 ghost use Rattle.and_kept.specs.Settling.{gate_event};
 ghost use Rattle.and_usage.specs.Counting.{bytes_of};
 ghost use Rattle.and_book.specs.Outers.{IsSentBy};
-ghost use Rattle.and_book.specs.Settling.{MaySettleGateway, MaySettleIngress, ingress_event, IsLanding, MaySettleEgress, egress_event, IsLeaving, use_of};
+ghost use Rattle.and_book.specs.Settling.{MaySettleGateway, MaySettleIngress, ingress_event, IsLanding, MaySettleEgress, egress_event, IsLeaving, MaySeal, sealed_event, use_of};
 ghost use Rattle.and_book.specs.Views.{now, held, IsSeat, with_line, MayTake, IsPacket};
 
 use crate::book::{Book, note};
@@ -70,6 +70,26 @@ impl Book {
         let from = holder(&self.plan.packets, actor, parcel.packet());
         let event = settle_gate(&mut self.traffic, from, parcel, decision);
         note(&mut self.lines, &mut self.prepared, seat, event);
+    }
+
+    /// The coprocessor sends the packet in its hand on the way that was decided when it left its VM. From this send on its outer
+    /// packets have their UDP checksum.
+    pub fn sealed(&mut self, seat: u32, actor: Actor, parcel: Parcel)
+        requires seat { IsSeat self.old seat actor }
+        requires ready { MaySeal self.old.plan (now self.old) actor parcel.packet }
+        requires parcel { IsPacket self.old.plan parcel }
+        ensures { self.new ≡ with_line self.old seat (sealed_event self.old.plan.settings (now self.old).flow actor parcel.packet) }
+    {
+        let packet = parcel.packet();
+        let from = holder(&self.plan.packets, actor, packet);
+        let way = self.traffic.carried(packet);
+        let end = self.traffic.send(from, parcel, way.net, way.target);
+        note(
+            &mut self.lines,
+            &mut self.prepared,
+            seat,
+            Event::Sealed { actor, packet, end },
+        );
     }
 
     /// The host worker settles the packet in its hand that has come for a VM, by a decision of the policy.

@@ -32,10 +32,10 @@ addressed v (Host h) small is = omega (arith, small.hosts, is)
 addressed v (Gate g) small is = omega (arith, small.gateways, is)
 
 -- what is kept of a send is the send, by the parts
-pub sent_on : (t : Roads) (from : Holder) (p w : ParcelView) (hand queue i hops net : ℕ) (target : Endpoint) (numbers : List (List ℕ)) (hands : List (Option Held)) (carried : List Carried) (parcels : List (List ParcelView))
-    → i ≡ p.packet → hand ≡ hand_of t from → queue ≡ queue_to t.settings target → hops ≡ (carried_in t.flow.carried i).hops → w ≡ wrapped (node_of from.actor) from.tuple hops p net target
+pub sent_on : (t : Roads) (from : Holder) (p w : ParcelView) (hand queue i : ℕ) (known : Carried) (net : ℕ) (target : Endpoint) (numbers : List (List ℕ)) (hands : List (Option Held)) (carried : List Carried) (parcels : List (List ParcelView))
+    → i ≡ p.packet → hand ≡ hand_of t from → queue ≡ queue_to t.settings target → known ≡ carried_in t.flow.carried i → w ≡ wrapped (node_of from.actor) from.tuple known p net target
     → numbers ≡ pushed t.flow.queues queue w.packet → hands ≡ set t.flow.hands hand None → carried ≡ set t.flow.carried i (sent (carried_in t.flow.carried i) net target) → parcels ≡ with_parcel t.parcels queue w
     → record t { flow = record { queues = numbers; hands = hands; carried = carried }; parcels = parcels } ≡ moved t from p (Send (hand_of t from) (queue_to t.settings target) p.packet net target)
 unfolding flow_after
-sent_on t from p w hand queue i hops net target numbers hands carried parcels packet hand_is queue_is left wrapped_is numbers_are hands_are carried_are parcels_are =
+sent_on t from p w hand queue i known net target numbers hands carried parcels packet hand_is queue_is left wrapped_is numbers_are hands_are carried_are parcels_are =
     rw (numbers_are, hands_are, carried_are, parcels_are, wrapped_is, left, hand_is, queue_is, packet) refl

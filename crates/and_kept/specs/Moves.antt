@@ -36,7 +36,7 @@ abbrev pub moved : Roads → Holder → ParcelView → Move → Roads
 moved t from p m =
     record t {
       flow = flow_after t.flow m;
-      parcels = parcels_moved (node_of from.actor) from.tuple (carried_in t.flow.carried p.packet).hops t.parcels p m;
+      parcels = parcels_moved (node_of from.actor) from.tuple (carried_in t.flow.carried p.packet) t.parcels p m;
     }
 
 -- the queue from which an actor takes next: a worker from `out` only where `wire` is empty

@@ -4,7 +4,7 @@ ghost use Rattle.and_events.specs.OuterPackets as packets;
 ghost use Rattle.and_events.specs.State.{node_at};
 ghost use Rattle.and_kept.specs.Outers.{HasAddress, wrapped};
 
-use and_events::{Endpoint, Node};
+use and_events::{Carried, Endpoint, Node};
 use and_parcel::{Outer, Parcel, entropy_port};
 use and_policy::{Tuple, flow_hash, host_address, redirect_address, route_address};
 
@@ -31,27 +31,28 @@ fn endpoint_address(target: Endpoint) -> u32
     }
 }
 
-/// Writes the outer headers of a send into the parcel; the TTL is the hops left before the send.
+/// Writes the outer headers of a send into the parcel, with what is known of its packet before the send: the TTL is the
+/// hops left, and the UDP checksum is computed where the packet is sealed.
 pub(crate) fn wrap_to(
     node: Node,
     tuple: &Tuple,
-    hops: u32,
+    carried: Carried,
     parcel: &mut Parcel,
     net: u32,
     target: Endpoint,
 )
     requires node { HasAddress node }
     requires target { HasAddress (node_at target) }
-    requires hops { hops < 2 ^ 8 }
+    requires hops { carried.hops < 2 ^ 8 }
     requires net { net < 2 ^ 24 }
-    ensures { parcel.new ≡ wrapped node tuple.now hops parcel.old net target }
+    ensures { parcel.new ≡ wrapped node tuple.now carried parcel.old net target }
 {
     parcel.wrap(&Outer {
         source: source_address(node),
         destination: endpoint_address(target),
-        ttl: hops as u8,
+        ttl: carried.hops as u8,
         vni: net,
         source_port: entropy_port(flow_hash(tuple)),
-        sealed: false,
+        sealed: carried.sealed,
     });
 }

@@ -271,17 +271,17 @@ impl Traffic {
         let mut parcel = parcel;
         let settings = self.hall.settings();
         let packet = parcel.packet();
-        let hops = self.carried(packet).hops;
+        let carried = self.carried(packet);
         wrap_to(
             node_of(from.actor),
             &from.tuple,
-            hops,
+            carried,
             &mut parcel,
             net,
             target,
         );
         self.hall.clear(hand_place(settings, from.actor));
-        if hops == 0 {
+        if carried.hops == 0 {
             return End::Hops;
         }
         let queue = queue_place(settings, node_at(target), Queue::Wire);

@@ -18,7 +18,7 @@ invariant_of-result c =
     let plan : Plan = c.args.plan in
     let k : Kept = record { next = 0; progress = c.in_ok-progress.progress; ports = c.in_ok-ports.ports; pins = c.in_ok-pins.pins; roads = c.in_ok-traffic.traffic; reviews = c.in_ok-reviews.reviews } in
     record {
-      keeps = keeps_start plan c.args.threads c.new.result.items k _ c.len-3.result c.count_nodes-nodes.result c.len.result c.requires.sound c.requires.built c.new.ensures.items refl c.count_nodes-nodes.ensures
+      keeps = keeps_start plan c.args.threads c.new.result.items k _ c.len-3.result c.count_nodes-nodes.result c.len.result c.requires.sound c.new.ensures.items refl c.count_nodes-nodes.ensures
           c.len-3.ensures c.len.ensures c.in_ok-progress.ensures.programmes c.in_ok-ports.ensures (ap (λ (r : Roads). r.flow) c.in_ok-traffic.ensures) c.in_ok-progress.ensures.held (ap (λ (r : Roads). r.held) c.in_ok-traffic.ensures)
           c.in_ok-reviews.ensures.used
           (record {

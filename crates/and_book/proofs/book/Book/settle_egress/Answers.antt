@@ -67,7 +67,7 @@ settle_leaving-departure-requires-clause-leads c =
     ∙ own_net x.plan x.threads x.lines.items (kept_of x) _ inv a ready.decides.need Out c.args.parcel ready.decides.holds)) in
     subst (λ v. LeadsLeaving v c.unwrap_or-own.result c.leaving_in-said.result) (sym inv.sized.settings)
     (subst (λ n. LeadsLeaving x.plan.settings n c.leaving_in-said.result) (sym net)
-    (subst (LeadsLeaving x.plan.settings (source_net x.plan i)) (sym said) (leads_leaving x.plan (past x.lines.items) a i c.args.decision.at inv.sound inv.built inv.run ready.decides.actor ready.worker)))
+    (subst (LeadsLeaving x.plan.settings (source_net x.plan i)) (sym said) (leads_leaving x.plan (past x.lines.items) a i c.args.decision.at inv.sound inv.run ready.decides.actor ready.worker)))
 
 pub note_use-requires-clause-room : goal.note_use-requires-clause-room
 note_use-requires-clause-room c =
@@ -131,7 +131,7 @@ invariant_of-self c =
     let sized = ap (λ g. length g.queues) (sym st.flow) ∙ inv.sizes.queues in
     let left = all_hops plan (past lines) a i d.at inv.sound inv.run ready.worker ready.decides in
     let hops : 0 < (carried_at s i).hops = omega (arith, left, inv.sound.settings.hop_limit.0) in
-    let leads = leads_leaving plan (past lines) a i d.at inv.sound inv.built inv.run ready.decides.actor ready.worker in
+    let leads = leads_leaving plan (past lines) a i d.at inv.sound inv.run ready.decides.actor ready.worker in
     record {
       keeps = subst (λ (r : Roads). Keeps plan x.threads lines' (record k { roads = r; reviews = c.note_use.new.reviews }) spare') (sym c.settle_leaving-departure.ensures.moved)
           (settled_keeps plan x.threads lines k _ inv a ready.decides.need Out c.args.parcel ready.decides.holds lines' spare' c.args.seat e f _ c.note_use.new.reviews

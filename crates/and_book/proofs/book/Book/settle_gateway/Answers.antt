@@ -44,7 +44,7 @@ settle_gate-event-requires-clause-leads c =
     let ready = seen x c.args.self.now c.self.view_is (λ (b : BookView). MaySettleGateway b.plan (now b) c.args.actor c.args.parcel.packet c.args.decision) c.requires.ready in
     subst (λ v. LeadsGate v c.args.decision) (sym inv.sized.settings)
     (leads_gate x.plan (state x.plan (past x.lines.items)) c.args.actor c.args.parcel.packet c.args.decision
-    (λ at. known_entries x.plan (past x.lines.items) c.args.actor at inv.sound inv.built inv.run (gateway_node x.plan.settings c.args.actor ready.worker ready.decides.actor)) ready.decision)
+    (λ at. known_entries x.plan (past x.lines.items) c.args.actor at inv.sound inv.run (gateway_node x.plan.settings c.args.actor ready.worker ready.decides.actor)) ready.decision)
 
 pub invariant_of-self : goal.invariant_of-self
 invariant_of-self c =
@@ -73,7 +73,7 @@ invariant_of-self c =
     ap (λ (y : Holder). gate_move k.roads.settings k.roads.flow (hand_of k.roads y) i d) from
     ∙ (as_kept plan s k (λ v g. gate_move v g (hand_place v a) i d) inv.sized.settings st.flow ∙ gate_moves plan s a i d) in
     let leads = leads_gate plan s a i d
-    (λ at. known_entries plan (past lines) a at inv.sound inv.built inv.run (gateway_node plan.settings a ready.worker ready.decides.actor)) ready.decision in
+    (λ at. known_entries plan (past lines) a at inv.sound inv.run (gateway_node plan.settings a ready.worker ready.decides.actor)) ready.decision in
     let sized = ap (λ g. length g.queues) (sym st.flow) ∙ inv.sizes.queues in
     record {
       keeps = subst (λ (r : Roads). Keeps plan x.threads lines' (record k { roads = r }) spare') (sym c.settle_gate-event.ensures.moved)

@@ -1,5 +1,4 @@
 use Rattle.std.proofs.Common.{◌≡◌, ◌∙◌, ap, subst, sym}
-use Rattle.and_events.specs.declared.event.Carried.{Carried}
 use Rattle.and_events.specs.declared.event.Node.{Node}
 use Rattle.and_events.specs.declared.event.Queue.TheVariants.{Wire}
 use Rattle.and_events.specs.declared.plan.Settings.{Settings}
@@ -46,12 +45,12 @@ returns-clause-moved c =
     ≡ moved v c.args.from c.args.parcel (Send (hand_of v c.args.from) (queue_to v.settings c.args.target) c.args.parcel.packet c.args.net c.args.target)) c.self.view_is
     (ap (λ v. record { settings = v; flow = flow; parcels = last.parcels; held = last.held }) settings
     ∙ (ap (λ m. record { settings = h.settings; flow = flow; parcels = last.parcels; held = m }) held
-    ∙ sent_on t c.args.from c.args.parcel w c.hand_place.result q c.packet-packet.result c.carried-hops.result.hops c.args.net c.args.target
+    ∙ sent_on t c.args.from c.args.parcel w c.hand_place.result q c.packet-packet.result c.carried-carried.result c.args.net c.args.target
     last.queues last.hands c.note_send.new.carried.items last.parcels
     c.packet-packet.ensures (c.hand_place.ensures.place ∙ ap (λ (v : Settings). hand_place v c.args.from.actor) same)
     (c.queue_place-queue.ensures.place ∙ (ap (λ (n : Node). queue_place c.settings-settings.result n Wire) c.node_at.ensures ∙ ap (λ (v : Settings). queue_to v c.args.target) same))
-    (ap (λ (y : Carried). y.hops) (c.carried-hops.ensures.is ∙ ap (λ (v : Roads). carried_in v.flow.carried c.packet-packet.result) (sym c.self.view_is)))
-    (c.wrap_to.ensures ∙ ap (λ n. wrapped n c.args.from.tuple c.carried-hops.result.hops c.args.parcel c.args.net c.args.target) c.node_of.ensures)
+    (c.carried-carried.ensures.is ∙ ap (λ (v : Roads). carried_in v.flow.carried c.packet-packet.result) (sym c.self.view_is))
+    (c.wrap_to.ensures ∙ ap (λ n. wrapped n c.args.from.tuple c.carried-carried.result c.args.parcel c.args.net c.args.target) c.node_of.ensures)
     (c.if-enter.ensures.queues ∙ ap (λ (y : HallView). pushed y.queues q w.packet) cleared)
     (c.enter.ensures.hands ∙ ap (λ (y : HallView). y.hands) cleared) c.note_send.ensures
     (c.if-enter.ensures.parcels ∙ ap (λ (y : HallView). with_parcel y.parcels q w) cleared)))

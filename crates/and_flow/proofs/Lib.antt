@@ -1,1 +1,3 @@
+mod Moved
 mod Newer
+mod Places

@@ -8,17 +8,8 @@ use Rattle.and_policy.specs.declared.cached.Cached.{Cached}
 use Rattle.and_policy.specs.declared.decision.Outcome.{Outcome}
 use Rattle.and_policy.specs.declared.entry.FlowKey.{FlowKey}
 use Rattle.and_policy.specs.Caches.{after_puts, answer, at_most_16, group, group_of, look, put, put_in, same_key, without}
+use Rattle.and_flow.specs.Groups.{NoKey, Once, KeysOnce}
 use Rattle.and_flow.specs.Newest.{newest, AnswersNewest}
-
--- no entry of the key
-abbrev pub NoKey : FlowKey → List Cached → Type 0
-NoKey key [] = Unit {0}
-NoKey key (x ∷ xs) = (same_key x.key key ≡ false) × NoKey key xs
-
--- the key stands at most once
-abbrev pub Once : FlowKey → List Cached → Type 0
-Once key [] = Unit {0}
-Once key (x ∷ xs) = (same_key x.key key ≡ true → NoKey key xs) × Once key xs
 
 once_of_none : (key : FlowKey) (xs : List Cached) → NoKey key xs → Once key xs
 once_of_none key [] n = tt
@@ -34,7 +25,7 @@ none_more key [] x n = refl
 none_more key (y ∷ ys) x n = rw n.0 (none_more key ys x n.1)
 
 -- keys that are the same
-same_is : (a b : FlowKey) → same_key a b ≡ true → a ≡ b
+pub same_is : (a b : FlowKey) → same_key a b ≡ true → a ≡ b
 same_is a b e = grind arith
 
 -- ---- taking a key out
@@ -131,6 +122,14 @@ put_other key xs x found d h =
     let same = newest_other key (without x.key xs) x d ∙ out_other x.key key xs d in
     let P : Option Cached → Type 0 = λ o. (o ≡ None) ⊎ (o ≡ found) in
     trimmed key (without x.key xs ++ x ∷ []) found (record { once = once_other key (without x.key xs) x d (once_out x.key key xs h.once); by = subst P (sym same) h.by })
+
+-- a put leaves each key at most once
+pub once_put : (xs : List Cached) (x : Cached) → KeysOnce xs → KeysOnce (put_in xs x)
+once_put xs x once key = at_key (same_key x.key key) refl
+  where
+    at_key : (b : Bool) → same_key x.key key ≡ b → Once key (put_in xs x)
+    at_key true e = (put_same key xs x e).once
+    at_key false e = (put_other key xs x (newest key xs) e (record { once = once key; by = inr refl })).once
 
 -- ---- all puts
 

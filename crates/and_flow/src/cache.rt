@@ -2,6 +2,7 @@
 ghost use Rattle.std.specs.Prelude.{◌≡◌, ◌<◌, slice_set, slice_index_or, [], IfOk, length};
 ghost use Rattle.std.specs.List.{find};
 ghost use Rattle.and_policy.specs.Caches as caches;
+ghost use Rattle.and_flow.specs.Groups.{tag_of};
 
 use crate::group::Group;
 use and_policy::{Cached, FlowKey, NoMemory, Outcome, flow_hash};
@@ -25,29 +26,34 @@ impl Model for FlowCache {
     ghost invariant = { λ c. length c.groups.items ≡ 64 };
 }
 
-// The group of a key, by its flow hash.
-fn group_of(key: &FlowKey) -> usize
-    ensures group { result ≡ caches.group_of key.now }
-    ensures bound { result < 64 }
+// The group of a key and its tag in the group, both of its flow hash.
+#[tactic(auto, unfolding(crate::specs::Groups::tag_of))]
+fn group_of(key: &FlowKey) -> (usize, u8)
+    ensures group { result.0 ≡ caches.group_of key.now }
+    ensures bound { result.0 < 64 }
+    ensures tag { result.1 ≡ tag_of key.now }
 {
-    flow_hash(&key.tuple) as usize % 64
+    let hash = flow_hash(&key.tuple);
+    (hash as usize % 64, (hash / 64 % 256) as u8)
 }
 
 // What a group answers.
-fn look_at(groups: &[Group], at: usize, key: &FlowKey, floor: u32) -> Option<Outcome>
-    requires { at < length groups.now }
+fn look_at(groups: &[Group], at: usize, tag: u8, key: &FlowKey, floor: u32) -> Option<Outcome>
+    requires at { at < length groups.now }
+    requires tag { tag ≡ tag_of key.now }
     ensures { result ≡ caches.answer floor (find (λ x. caches.same_key x.key key.now) (slice_index_or groups.now at [])) }
 {
     let group = &groups[at];
-    group.look(key, floor)
+    group.look(tag, key, floor)
 }
 
 // Puts an entry into a group.
-fn put_at(groups: &mut Vec<Group>, at: usize, new: Cached)
-    requires { at < length groups.old.items }
+fn put_at(groups: &mut Vec<Group>, at: usize, tag: u8, new: Cached)
+    requires at { at < length groups.old.items }
+    requires tag { tag ≡ tag_of new.key }
     ensures { groups.new.items ≡ slice_set groups.old.items at (caches.put_in (slice_index_or groups.old.items at []) new) }
 {
-    groups[at].put(new);
+    groups[at].put(tag, new);
 }
 
 #[tactic(auto, unfolding(and_policy::specs::Caches::put, and_policy::specs::Caches::look))]
@@ -68,7 +74,8 @@ impl FlowCache {
     pub fn look(&self, key: &FlowKey, floor: u32) -> Option<Outcome>
         ensures { result ≡ caches.look self.now key.now floor }
     {
-        look_at(&self.groups, group_of(key), key, floor)
+        let (at, tag) = group_of(key);
+        look_at(&self.groups, at, tag, key, floor)
     }
 
     /// Puts an outcome that stands on so many operations (`stamp`). The key's old entry goes, and the oldest of the group where there are then
@@ -81,6 +88,7 @@ impl FlowCache {
             stamp,
             outcome,
         };
-        put_at(&mut self.groups, group_of(key), new);
+        let (at, tag) = group_of(key);
+        put_at(&mut self.groups, at, tag, new);
     }
 }

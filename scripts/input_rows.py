@@ -194,6 +194,12 @@ def by_hand():
         ('{"do":"add_rule","net":7,"number":1,"priority":0,"side":"egress","action":"deny","sealed":true}', "Range /script/0/sealed"),
         ('{"do":"add_rule","net":7,"number":1,"priority":0,"side":"ingress","action":"allow","sealed":true}', "Range /script/0/sealed"),
         ('{"do":"add_rule","net":7,"number":1,"priority":0,"side":"egress","action":"allow","sealed":true}', "accepted"),
+        ('{"do":"add_rule","net":7,"number":1,"priority":0,"side":"ingress","action":"deny","sealed":true}', "Range /script/0/sealed"),
+        ('{"do":"add_rule","net":7,"number":1,"priority":0,"side":"egress","action":"deny","sealed":false}', "accepted"),
+        ('{"do":"add_rule","net":7,"number":1,"priority":0,"side":"ingress","action":"allow","sealed":false}', "accepted"),
+        ('{"do":"add_rule","net":7,"number":1,"priority":0,"side":"ingress","action":"allow","sealed":1}', "Field /script/0/sealed"),
+        ('{"do":"add_rule","net":7,"number":1,"priority":0,"side":"ingress","action":"allow","destination_ports":[2,1],"sealed":true}',
+         "Range /script/0/destination_ports"),
         # An unknown peer comes before the faults of the target.
         ('{"do":"add_route","net":7,"number":1,"prefix":"10.0.0.0/8","target":"local","peer":8}', "Unknown /script/0/peer"),
         ('{"do":"add_route","net":7,"number":1,"prefix":"10.0.0.0/8","target":7,"peer":8}', "Unknown /script/0/peer"),
@@ -292,7 +298,8 @@ TWO_VMS_LOG = "add_net:7 add_vm:0:0 add_vm:1:1 add_rule:7:1 add_route:7:1".split
 
 def words_of_entry(entry):
     numbers = {"add_vm": ("vm", "host"), "remove_vm": ("vm",), "place": ("vm", "host"), "tick": ()}.get(entry["do"], ("net", "number"))
-    return ":".join([entry["do"], *(str(entry[n]) for n in numbers if n in entry)])
+    sealed = ["sealed"] if entry.get("sealed") else []
+    return ":".join([entry["do"], *(str(entry[n]) for n in numbers if n in entry), *sealed])
 
 
 def words_of_step(step):
@@ -333,6 +340,11 @@ def plans():
           item("free", node="h1", what="install"), item("blackout", vm="a", host=1), item("resume", vm="a"), item("remove_vm", vm="b"), item("send")],
          appended(log) + "review wait hold:h1:install free:h1:install blackout:0:1 resume:0 append:remove_vm:1 inject:0".split(),
          log + ["place:0:1", "remove_vm:1"], [FRAME_A], packets="0")
+    # A rule that seals is planned with its mark, one with the mark false without.
+    sealed = item("add_rule", net=7, number=2, priority=1, side="egress", action="allow", sealed=True)
+    log = TWO_VMS_LOG + ["add_rule:7:2:sealed", "add_rule:7:3"]
+    plan(TWO_VMS + [sealed, item("add_rule", net=7, number=3, priority=1, side="egress", action="allow", sealed=False), sealed, item("send")],
+         appended(log) + ["inject:0"], log, [FRAME_A], packets="0", refused=["7:RuleTaken"])
     # Each item alone is refused, by the first check that fails, and changes nothing.
     faults = [
         ("NetTaken", item("add_net", net=7)), ("NoNet", vm("a", 1, 9, net=9)), ("VmTaken", vm("a", 1, 9)), ("NoHost", vm("c", 1, 2)),

@@ -3,7 +3,6 @@ pub mod Walks
 pub mod Frees
 pub mod Items
 pub mod Planned
-pub mod Building
 pub mod Applying
 pub mod Planning
 pub mod Promises

@@ -4,7 +4,6 @@ use Rattle.std.proofs.Math.Seq.{drop-cons}
 use Rattle.and_capture.specs.declared.capture.Capture.{Capture}
 use Rattle.and_policy.specs.declared.entry.Entry.{Entry}
 use Rattle.and_events.specs.declared.plan.Item.{Item}
-use Rattle.and_events.specs.declared.plan.Plan.{Plan}
 use Rattle.and_events.specs.declared.plan.Settings.{Settings}
 use Rattle.and_events.specs.declared.plan.Scenario.{Scenario}
 use Rattle.and_events.specs.declared.plan.Step.{Step}

@@ -7,16 +7,9 @@ use Rattle.and_events.specs.declared.plan.Plan.{Plan}
 use Rattle.and_events.specs.declared.plan.Scenario.{Scenario}
 use Rattle.and_events.specs.Planned.{planned}
 use Rattle.and_events.specs.Sound.{IsSound}
-use Rattle.and_built.specs.Built.{IsBuilt}
 use Rattle.and_planner.proofs.Planned.{planned_is_sound}
-use Rattle.and_planner.proofs.Building.{planned_is_built}
-use Rattle.and_planner.specs.Scenarios.{IsBuiltScenario}
 use Rattle.and_planner.specs.Plans.{CanPlan}
 
 pub sound_plan : (scenario : Scenario) (capture : Capture) → CanPlan scenario capture → (r : Result Plan NoMemory) → IfOk r (λ p. p ≡ planned scenario capture) → IfOk r (λ p. IsSound p)
 sound_plan scenario capture can (Ok p) is = subst IsSound (sym is) (planned_is_sound scenario capture can.is can.few_frames)
 sound_plan scenario capture can (Err e) is = tt
-
-pub built_plan : (scenario : Scenario) (capture : Capture) → IsBuiltScenario scenario → (r : Result Plan NoMemory) → IfOk r (λ p. p ≡ planned scenario capture) → IfOk r (λ p. IsBuilt p)
-built_plan scenario capture built (Ok p) is = subst IsBuilt (sym is) (planned_is_built scenario capture built)
-built_plan scenario capture built (Err e) is = tt

@@ -1,7 +1,6 @@
 -- What each scenario that is read has, so that a plan can be made of it.
-use Rattle.std.specs.Prelude.{ℕ, ◌<◌, ◌≤◌, length, Bool, true, false, not}
-use Rattle.std.specs.List.{All, AllPass}
-use Rattle.and_policy.specs.declared.entry.Entry.TheVariants as entries
+use Rattle.std.specs.Prelude.{ℕ, ◌<◌, ◌≤◌, length}
+use Rattle.std.specs.List.{All}
 use Rattle.and_events.specs.declared.plan.Item.{Item}
 use Rattle.and_events.specs.declared.plan.Item.TheVariants as items
 use Rattle.and_events.specs.declared.plan.Scenario.{Scenario}
@@ -19,12 +18,3 @@ pub record IsScenario (s : Scenario) : Type 0 where
   pub names : length s.names ≤ 65536
   pub few : length s.items ≤ 65536
   pub items : All (IsItem (length s.names)) s.items
-
--- What the system runs so far: all but a rule that seals
-abbrev pub is_built_item : Item → Bool
-is_built_item (items.Entry (entries.AddRule net rule)) = not rule.sealed
-is_built_item _ = true
-
--- each item is such
-pub record IsBuiltScenario (s : Scenario) : Type 0 where
-  pub items : AllPass is_built_item s.items

@@ -1,5 +1,5 @@
 -- The plain state of a script as the plan's program keeps it.
-use Rattle.std.specs.Prelude.{◌≡◌, ℕ, ◌<◌, Result, Ok, Err}
+use Rattle.std.specs.Prelude.{ℕ, Result, Ok, Err}
 use Rattle.and_policy.specs.Logs.{Vm}
 use Rattle.and_events.specs.declared.plan.Item.{Item}
 use Rattle.and_events.specs.declared.plan.Settings.{Settings}

@@ -5,16 +5,10 @@ ghost use Rattle.and_capture.specs.declared.capture.Capture.{Capture};
 ghost use Rattle.and_events.specs.declared.plan.Scenario.{Scenario};
 ghost use Rattle.and_events.specs.Planned.{planned};
 ghost use Rattle.and_events.specs.Sound.{IsSound};
-ghost use Rattle.and_built.specs.Built.{IsBuilt};
-ghost use Rattle.and_planner.specs.Scenarios.{IsScenario, IsBuiltScenario};
+ghost use Rattle.and_planner.specs.Scenarios.{IsScenario};
 
 /// The plan of a scenario whose numbers are in their ranges, with a capture of at most 100,000 frames, is sound.
 #[tactic(auto, using(crate::proofs::Planned::planned_is_sound))]
 pub fn plans_are_sound()
     ensures { (scenario : Scenario) (capture : Capture) → IsScenario scenario → length capture.frames ≤ 100000 → IsSound (planned scenario capture) }
-{}
-
-/// The plan of a scenario that the system can run so far is built.
-pub fn plans_are_built()
-    ensures { (scenario : Scenario) (capture : Capture) → IsBuiltScenario scenario → IsBuilt (planned scenario capture) }
 {}

@@ -2,12 +2,11 @@
 //!
 //! [`plan`] makes the very plan that the definition gives: each item that fits gives its steps, each other is refused by its number and its
 //! fault, each frame is a packet or is skipped for its reason, and the end is the last step. The plan is sound; want of memory is the
-//! only error. What the system cannot run yet is one predicate on items ([`is_built`] tests a scenario): plans of others are built.
+//! only error.
 //!
 //! It stands on `and_policy` for the log, on `and_wire` for the reading of frames, and on `and_events` and `and_capture` for the types.
 #![tactic(auto)]
 
-mod built;
 mod holds;
 mod laws;
 mod making;
@@ -15,6 +14,5 @@ mod moves;
 mod planner;
 mod state;
 
-pub use built::is_built;
-pub use laws::{plans_are_built, plans_are_sound};
+pub use laws::plans_are_sound;
 pub use making::plan;

@@ -2,8 +2,6 @@
 ghost use Rattle.std.specs.Prelude.{◌≡◌, ◌≤◌, length, IfOk};
 ghost use Rattle.and_events.specs.Planned.{planned, items_applied, nothing_planned};
 ghost use Rattle.and_events.specs.Sound.{IsSound};
-ghost use Rattle.and_built.specs.Built.{IsBuilt};
-ghost use Rattle.and_planner.specs.Scenarios.{IsBuiltScenario};
 ghost use Rattle.and_planner.specs.Planners.{planning_of};
 ghost use Rattle.and_planner.specs.Plans.{CanPlan};
 
@@ -64,13 +62,10 @@ fn made(alloc: Global, scenario: Scenario, capture: Capture) -> Result<Plan, NoM
 }
 
 /// The plan of a scenario and a capture, which is sound. Want of memory is the only error, and then nothing of the plan is left.
-///
-/// Where the system can run the scenario so far, it can run the plan.
 pub fn plan(alloc: Global, scenario: Scenario, capture: Capture) -> Result<Plan, NoMemory>
     requires { CanPlan scenario capture }
     ensures planned { IfOk result (λ p. p ≡ planned scenario capture) }
     ensures sound { IfOk result (λ p. IsSound p) }
-    ensures built { IsBuiltScenario scenario → IfOk result (λ p. IsBuilt p) }
 {
     made(alloc, scenario, capture)
 }

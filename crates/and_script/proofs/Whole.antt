@@ -27,7 +27,6 @@ told (faults.Field path) cause place said is e = (cause, place, is, e)
 told (faults.Unknown path) cause place said is e = (cause, place, is, e)
 told (faults.Range path) cause place said is e = (cause, place, is, e)
 told (faults.Limit path) cause place said is e = (cause, place, is, e)
-told faults.NotBuilt cause place said is e = (cause, place, is, e)
 told faults.NoMemory cause place said is e = tt
 
 abbrev pub with_settings : Settings → Result (List grammar.Written) grammar.Fault → Result Scenario grammar.Fault

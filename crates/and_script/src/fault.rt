@@ -16,8 +16,6 @@ pub enum ScenarioFault {
     Range { path: Bytes },
     /// The script is too long.
     Limit { path: Bytes },
-    /// A scenario that the caller cannot run yet. [`crate::read_scenario`] never answers it.
-    NotBuilt,
     /// Memory was wanted and not there.
     NoMemory,
 }

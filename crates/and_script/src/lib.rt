@@ -6,7 +6,7 @@
 #![tactic(auto)]
 
 pub use and_events::{Item, Scenario};
-pub use and_planner::{is_built, plan};
+pub use and_planner::plan;
 pub use fault::ScenarioFault;
 pub use scenario::{read_scenario, read_value, scenario_of};
 

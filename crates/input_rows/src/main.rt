@@ -48,7 +48,6 @@ fn tell_scenario(rt: &HostRuntime, text: &[u8]) -> io::Result<()> {
     match read_scenario(rt.alloc(), text) {
         Ok(_) => println!(rt; "accepted"),
         Err(ScenarioFault::NotJson) => println!(rt; "NotJson"),
-        Err(ScenarioFault::NotBuilt) => println!(rt; "NotBuilt"),
         Err(ScenarioFault::NoMemory) => println!(rt; "NoMemory"),
         Err(ScenarioFault::Field { path }) => tell_path(rt, "Field ", path.as_bytes()),
         Err(ScenarioFault::Unknown { path }) => tell_path(rt, "Unknown ", path.as_bytes()),

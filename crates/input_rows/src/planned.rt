@@ -60,7 +60,8 @@ fn tell_entry(rt: &HostRuntime, head: &str, entry: &Entry) -> io::Result<()> {
         Entry::Place { vm, host } => print!(rt; "{head}place:{vm}:{host}"),
         Entry::AddRule { net, rule } => {
             let number = rule.number;
-            print!(rt; "{head}add_rule:{net}:{number}")
+            let sealed = if rule.sealed { ":sealed" } else { "" };
+            print!(rt; "{head}add_rule:{net}:{number}{sealed}")
         }
         Entry::DelRule { net, number } => print!(rt; "{head}del_rule:{net}:{number}"),
         Entry::AddRoute { net, route } => {

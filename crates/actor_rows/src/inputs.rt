@@ -1,12 +1,11 @@
 //! What is planned: five entries, and one packet.
 ghost use Rattle.std.specs.Prelude.{◌≤◌, length, IfOk};
 ghost use Rattle.and_events.specs.Sound.{IsSound};
-ghost use Rattle.and_built.specs.Built.{IsBuilt};
-ghost use Rattle.and_planner.specs.Scenarios.{IsScenario, IsBuiltScenario};
+ghost use Rattle.and_planner.specs.Scenarios.{IsScenario};
 
 use and_capture::{Bytes, Capture, Frames, Taken};
 use and_events::{Plan, Scenario};
-use and_planner::{is_built, plan};
+use and_planner::plan;
 use and_policy::NoMemory;
 use and_script::read_scenario;
 use std::alloc::Global;
@@ -59,25 +58,19 @@ fn capture(alloc: Global) -> Result<Capture, NoMemory>
     })
 }
 
-// The scenario, which the system can run.
+// The scenario.
 fn scenario(alloc: Global) -> Result<Scenario, Fault>
-    ensures fits { IfOk result (λ s. IsScenario s) }
-    ensures built { IfOk result (λ s. IsBuiltScenario s) }
+    ensures { IfOk result (λ s. IsScenario s) }
 {
-    let Ok(scenario) = read_scenario(alloc, SCENARIO.as_bytes()) else {
-        return Err(Fault::Scenario);
-    };
-    if is_built(&scenario) {
-        Ok(scenario)
-    } else {
-        Err(Fault::Scenario)
+    match read_scenario(alloc, SCENARIO.as_bytes()) {
+        Ok(scenario) => Ok(scenario),
+        Err(_) => Err(Fault::Scenario),
     }
 }
 
 /// The plan of both.
 pub(crate) fn planned(alloc: Global) -> Result<Plan, Fault>
-    ensures sound { IfOk result (λ p. IsSound p) }
-    ensures built { IfOk result (λ p. IsBuilt p) }
+    ensures { IfOk result (λ p. IsSound p) }
 {
     let scenario = scenario(alloc)?;
     let Ok(capture) = capture(alloc) else {

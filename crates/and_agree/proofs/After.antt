@@ -51,6 +51,7 @@ now_after old new seat e is =
 -- the event settles a packet in the actor's hand, or takes one
 abbrev pub Settles : Event → Actor → Type 0
 Settles (Egress a i at way d) b = a ≡ b
+Settles (Sealed a i end) b = a ≡ b
 Settles (Route a i at p) b = a ≡ b
 Settles (Redirect a i at back) b = a ≡ b
 Settles (Ingress a i at way x) b = a ≡ b
@@ -60,6 +61,7 @@ Settles _ b = ⊥
 pub programmes_stay : (plan : Plan) (s : State) (e : Event) (a : Actor) → Settles e a → (after plan s e).programmes ≡ s.programmes
 unfolding after word_of programmes_after
 programmes_stay plan s (Egress b i at way d) a is = refl
+programmes_stay plan s (Sealed b i end) a is = refl
 programmes_stay plan s (Route b i at p) a is = refl
 programmes_stay plan s (Redirect b i at back) a is = refl
 programmes_stay plan s (Ingress b i at way x) a is = refl
@@ -106,6 +108,8 @@ arrives_clears v f c a i (arrivals.Blackout vm) = refl
 pub hand_cleared : (plan : Plan) (s : State) (e : Event) (a : Actor) → Settles e a → (after plan s e).flow.hands ≡ set s.flow.hands (hand_place plan.settings a) None
 unfolding after move_of flow_after
 hand_cleared plan s (Egress b i at way d) a is = departs_clears plan.settings s.flow (source_net plan i) (hand_place plan.settings b) i (node_of b) d ∙ ap (λ x. set s.flow.hands (hand_place plan.settings x) None) is
+hand_cleared plan s (Sealed b i end) a is =
+    send_clears plan.settings s.flow (hand_place plan.settings b) i end (carried_at s i).target (carried_at s i).net ∙ ap (λ x. set s.flow.hands (hand_place plan.settings x) None) is
 hand_cleared plan s (Route b i at p) a is = passes_clears plan.settings s.flow (hand_place plan.settings b) i p ∙ ap (λ x. set s.flow.hands (hand_place plan.settings x) None) is
 hand_cleared plan s (Redirect b i at back) a is = returns_clears plan.settings s.flow (carried_at s i) (hand_place plan.settings b) i back ∙ ap (λ x. set s.flow.hands (hand_place plan.settings x) None) is
 hand_cleared plan s (Ingress b i at way x) a is = arrives_clears plan.settings s.flow (carried_at s i) (hand_place plan.settings b) i x ∙ ap (λ y. set s.flow.hands (hand_place plan.settings y) None) is

@@ -81,7 +81,7 @@ pub tables_logged : (plan : Plan) (h : List Event) → IsSound plan → Run plan
     → take (length tables) (programme_of plan (state plan h) node) ≡ tables → IsLog None (entries tables)
 tables_logged plan h sound r node is tables same = subst (IsLog None) (ap entries same) (prefix_logged plan h sound r node is (length tables))
 
-held_is : (g : Held) (i : ℕ) (q : Queue) → i ≡ g.packet → g.queue ≡ q → g ≡ record { packet = i; need = g.need; queue = q }
+pub held_is : (g : Held) (i : ℕ) (q : Queue) → i ≡ g.packet → g.queue ≡ q → g ≡ record { packet = i; need = g.need; queue = q }
 held_is g i q packet queue =
     ap (λ n. record { packet = n; need = g.need; queue = g.queue }) (sym packet) ∙ ap (λ z. record { packet = i; need = g.need; queue = z }) queue
 

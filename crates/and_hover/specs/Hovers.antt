@@ -33,10 +33,6 @@ is_redirect _ = false
 
 -- ---- with the book
 
--- the book and the worker both have a packet in this worker's hand, or neither has
-abbrev pub HoldsAsBook : BookView → HoverView → Type 0
-HoldsAsBook b h = is_some (hand_at (now b).flow.hands (hand_place b.plan.settings (Gateway h.gateway))) ≡ is_some h.hand
-
 -- what the gateway's worker has in hand is what the book has there, with its packet's parcel, network and address
 pub record IsInHand (b : BookView) (gateway : ℕ) (x : InHand) : Type 0 where
   pub actor : IsActor b.plan.settings (Gateway gateway)

@@ -6,8 +6,10 @@ ghost use Rattle.and_events.specs.Legal.{Enabled};
 ghost use Rattle.and_events.specs.State.{programme_of, announced_of};
 ghost use Rattle.and_book.specs.Views.{now, held, IsSeat};
 ghost use Rattle.and_agree.specs.Agreeing.{Tells};
-ghost use Rattle.and_hover.specs.Hovers.{HoldsAsBook, HasTaken, HasPacket, needs, HasDecided, MaySettle, IsSettled, HasSettled, forgotten, is_redirect};
+ghost use Rattle.and_hover.specs.Holding.{HoldsAsBook};
+ghost use Rattle.and_hover.specs.Hovers.{HasTaken, HasPacket, needs, HasDecided, MaySettle, IsSettled, HasSettled, forgotten, is_redirect};
 
+use crate::taking::can_take;
 use and_agree::{Settled, compare};
 use and_book::Book;
 use and_decide::{Behind, gateway};
@@ -63,13 +65,6 @@ fn is_for_redirect(carried: Carried) -> bool
     }
 }
 
-// Whether the actor holds nothing and is enabled.
-fn can_take(hand: &Option<InHand>, book: &Book, actor: Actor) -> bool
-    ensures { IsTrue result ↔ ((hand.now ≡ None) × Enabled book.now.plan (now book.now) actor) }
-{
-    hand.is_none() && book.enabled(actor)
-}
-
 // The packet without a decision.
 fn forget(hand: &mut Option<InHand>)
     ensures { hand.new ≡ forgotten hand.old }
@@ -96,7 +91,7 @@ impl Hover {
     /// needs room for two events beside those that settle the packets in hand.
     pub fn take(&mut self, book: &mut Book, seat: u32) -> bool
         requires seat { IsSeat book.old seat (actors.Gateway self.old.gateway) }
-        requires hands { HoldsAsBook book.old self.old }
+        requires hands { HoldsAsBook book.old (actors.Gateway self.old.gateway) self.old.hand }
         requires room { held book.old + 2 ≤ book.old.spare }
         ensures answer { IsTrue result ↔ ((self.old.hand ≡ None) × Enabled book.old.plan (now book.old) (actors.Gateway self.old.gateway)) }
         ensures taken { result ≡ true → HasTaken book.old book.new seat self.old self.new }

@@ -4,7 +4,7 @@ use Rattle.and_policy.specs.declared.entry.Op.{Op}
 use Rattle.and_policy.specs.declared.memory.NoMemory.{NoMemory}
 use Rattle.and_policy.specs.Caches.{empty}
 use Rattle.and_events.specs.declared.event.Actor.{Actor}
-use Rattle.and_events.specs.declared.event.Actor.TheVariants.{Gateway}
+use Rattle.and_events.specs.declared.event.Actor.TheVariants.{Coproc, Gateway}
 use Rattle.and_events.specs.declared.event.Held.{Held}
 use Rattle.and_events.specs.declared.event.Node.{Node}
 use Rattle.and_events.specs.declared.event.Node.TheVariants.{Host, Gate}
@@ -18,9 +18,10 @@ use Rattle.and_tables.specs.HostViews.{HostView}
 use Rattle.and_decide.specs.Deciding.{AreRight, Each, IsRight}
 use Rattle.and_worker.specs.Workers.{WorkerView}
 use Rattle.and_worker.specs.Workers as workers
+use Rattle.and_hover.specs.Coprocs.{CoprocView}
 use Rattle.and_hover.specs.Hovers.{HoverView}
 use Rattle.and_replay.specs.declared.parts.Parts.{Parts}
-use Rattle.and_replay.specs.Parting.{AreFresh, AreParts, HasNothing, FreshGates, FreshHosts, FreshWorkers, IsBatch, IsFresh, IsHoverAt, IsWorkerAt, WorkerHas, host_tables, installed_ops}
+use Rattle.and_replay.specs.Parting.{AreFresh, AreParts, HasNothing, FreshGates, FreshHosts, FreshWorkers, IsBatch, IsCoprocAt, IsFresh, IsHoverAt, IsWorkerAt, WorkerHas, host_tables, installed_ops}
 use Rattle.and_replay.proofs.Rows.{mapped, pushed}
 
 each_empty : (n : ℕ) (t : HostView) → Each (Each (IsRight t)) (replicate n [])
@@ -74,6 +75,9 @@ module _ (plan : Plan) where
     };
   }
 
+  coproc_begins : (n : ℕ) (c : CoprocView) → c ≡ record { host = n; hand = None } → IsCoprocAt plan [] n c
+  coproc_begins n c is = subst (IsCoprocAt plan [] n) (sym is) (record { host = refl; sealing = no_hand (Coproc n) })
+
   hover_begins : (n : ℕ) (v : HoverView) → v ≡ record { gateway = n; compared = 0; hand = None } → IsHoverAt plan [] n v
   hover_begins n v is =
       subst (IsHoverAt plan [] n) (sym is) (record { gateway = refl; passing = record { hand = no_hand (Gateway n); compared = omega arith } })
@@ -86,6 +90,7 @@ module _ (plan : Plan) where
     host_batches = mapped _ (λ n x. IsBatch plan [] (Host n) x) plan.settings.hosts p.host_batches.items fresh.host_batches (λ n x l is. no_batch (Host n) x is);
     gate_batches = mapped _ (λ n x. IsBatch plan [] (Gate n) x) plan.settings.gateways p.gate_batches.items fresh.gate_batches (λ n x l is. no_batch (Gate n) x is);
     workers = mapped _ (IsWorkerAt plan []) _ p.workers.items fresh.workers (λ n w l is. worker_begins n w is);
+    coprocs = mapped _ (IsCoprocAt plan []) plan.settings.hosts p.coprocs.items fresh.coprocs (λ n c l is. coproc_begins n c is);
     hovers = mapped _ (IsHoverAt plan []) plan.settings.gateways p.hovers.items fresh.hovers (λ n v l is. hover_begins n v is);
   }
 

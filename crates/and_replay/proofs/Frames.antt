@@ -5,7 +5,7 @@ use Rattle.std.proofs.lemmas.List.{take-append-drop}
 use Rattle.and_policy.specs.declared.entry.Op.{Op}
 use Rattle.and_parcel.specs.Parcels.{ParcelView}
 use Rattle.and_events.specs.declared.event.Actor.{Actor}
-use Rattle.and_events.specs.declared.event.Actor.TheVariants.{Gateway}
+use Rattle.and_events.specs.declared.event.Actor.TheVariants.{Coproc, Gateway}
 use Rattle.and_events.specs.declared.event.Carried.{Carried}
 use Rattle.and_events.specs.declared.event.Event.{Event}
 use Rattle.and_events.specs.declared.event.Event.TheVariants.{Announce, Installed}
@@ -21,13 +21,15 @@ use Rattle.and_events.specs.State.{state, announced_of, installed_of, programme_
 use Rattle.and_worker.specs.declared.worker.InHand.{InHand}
 use Rattle.and_worker.specs.Workers.{WorkerView}
 use Rattle.and_worker.specs.Workers as workers
+use Rattle.and_hover.specs.declared.coproc.ToSeal.{ToSeal}
 use Rattle.and_hover.specs.declared.hover.InHand.{InHand as HoverHand}
+use Rattle.and_hover.specs.Coprocs.{CoprocView}
 use Rattle.and_hover.specs.Hovers.{HoverView, is_redirect}
 use Rattle.and_worker.proofs.Growing.{stays_right}
 use Rattle.and_others.proofs.Lasting.{hand_lasts, carried_lasts}
 use Rattle.and_others.proofs.Growing.{announced_lasts, installed_by, installed_lasts, taken_lasts, numbers_below}
 use Rattle.and_others.proofs.Caching.{cache_lasts}
-use Rattle.and_replay.specs.Parting.{installed_ops, host_tables, announced_ops, IsBatch, Has, HasNothing, WorkerHas, HoverHas, IsWorking, IsPassing}
+use Rattle.and_replay.specs.Parting.{installed_ops, host_tables, announced_ops, IsBatch, Has, HasNothing, WorkerHas, CoprocHas, HoverHas, IsWorking, IsSealing, IsPassing}
 
 pub take_less : {X : Type 0} (n m : ℕ) (xs : List X) → n ≤ m → take n (take m xs) ≡ take n xs
 take_less zero m xs l = refl
@@ -118,6 +120,10 @@ module _ (plan : Plan) (h : List Event) (e : Event) (sound : IsSound plan) (r : 
     worker_has_lasts None has = nothing_lasts has
     worker_has_lasts (Some x) has = has_lasts x.held x.parcel x.vni has
 
+    pub coproc_has_lasts : (o : Option ToSeal) → CoprocHas plan h a o → CoprocHas plan (e ∷ h) a o
+    coproc_has_lasts None has = nothing_lasts has
+    coproc_has_lasts (Some x) has = record { held = hand_lasts plan h e a sound r is handles other ∙ has.held; packet = has.packet; parcel = has.parcel }
+
     pub hover_has_lasts : (o : Option HoverHand) → HoverHas plan h a o → HoverHas plan (e ∷ h) a o
     hover_has_lasts None has = nothing_lasts has
     hover_has_lasts (Some x) has = (
@@ -163,6 +169,9 @@ module _ (plan : Plan) (h : List Event) (e : Event) (sound : IsSound plan) (r : 
         right = stays_right (host_tables plan h w.host) (host_tables plan (e ∷ h) w.host) more.0 w.cache refl more.1 is.right;
         cache = is.cache ∙ sym (cache_lasts plan h e w.host w.index other);
       }
+
+  pub sealing_lasts : (c : CoprocView) → c.host < plan.settings.hosts → (actor_of e ≡ Coproc c.host → ⊥) → IsSealing plan h c → IsSealing plan (e ∷ h) c
+  sealing_lasts c is other has = coproc_has_lasts (Coproc c.host) is tt other c.hand has
 
   pub passing_lasts : (v : HoverView) → v.gateway < plan.settings.gateways → (actor_of e ≡ Gateway v.gateway → ⊥) → IsPassing plan h v → IsPassing plan (e ∷ h) v
   passing_lasts v is other p = record {

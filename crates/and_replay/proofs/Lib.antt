@@ -5,8 +5,8 @@ mod Beginning
 mod LastStep
 mod Working
 mod Passing
+mod Sealing
 mod Installing
 mod Driven
 mod Others
 mod Turning
-mod Unsealed

@@ -3,7 +3,7 @@ use Rattle.std.proofs.Common.{◌≡◌, ℕ, ◌*◌, ◌<◌, List, ◌∷◌,
 use Rattle.std.proofs.lemmas.Nat.{mul-add-lt}
 use Rattle.and_policy.specs.declared.entry.Op.{Op}
 use Rattle.and_events.specs.declared.event.Actor.{Actor}
-use Rattle.and_events.specs.declared.event.Actor.TheVariants.{HostInstall, GateInstall, Worker, Gateway}
+use Rattle.and_events.specs.declared.event.Actor.TheVariants.{HostInstall, GateInstall, Worker, Coproc, Gateway}
 use Rattle.and_events.specs.declared.event.Node.TheVariants.{Host, Gate}
 use Rattle.and_events.specs.declared.plan.Plan.{Plan}
 use Rattle.and_events.specs.declared.event.Event.{Event}
@@ -16,11 +16,12 @@ use Rattle.and_book.specs.Views.{BookView}
 use Rattle.and_tables.specs.HostViews.{HostView}
 use Rattle.and_worker.specs.Workers.{WorkerView}
 use Rattle.and_worker.specs.Workers as workers
+use Rattle.and_hover.specs.Coprocs.{CoprocView}
 use Rattle.and_hover.specs.Hovers.{HoverView}
-use Rattle.and_replay.specs.Parting.{AreGateBatches, AreGates, AreHostBatches, AreHosts, AreHovers, AreWorkers, IsBatch, IsHoverAt, IsPassing, IsWorkerAt, IsWorking, host_tables, installed_ops}
+use Rattle.and_replay.specs.Parting.{AreCoprocs, AreGateBatches, AreGates, AreHostBatches, AreHosts, AreHovers, AreWorkers, IsBatch, IsCoprocAt, IsHoverAt, IsPassing, IsSealing, IsWorkerAt, IsWorking, host_tables, installed_ops}
 use Rattle.and_replay.specs.Turns.{Adds}
 use Rattle.and_replay.proofs.Adding.{back, carried_over, plan_after}
-use Rattle.and_replay.proofs.Frames.{batch_lasts, ops_last, passing_lasts, tables_last, working_lasts}
+use Rattle.and_replay.proofs.Frames.{batch_lasts, ops_last, passing_lasts, sealing_lasts, tables_last, working_lasts}
 use Rattle.and_replay.proofs.Rows.{mapped, replaced}
 
 module _ (old new : BookView) (a : Actor) (adds : Adds old new a) (sound' : IsSound new.plan) (run : Run new.plan (past new.lines)) where
@@ -80,6 +81,12 @@ module _ (old new : BookView) (a : Actor) (adds : Adds old new a) (sound' : IsSo
     working = working_lasts plan h e sound r w is.host is.index (not_by (workers.actor_of w) other) is.working;
   }
 
+  still_seals : (n : ℕ) (c : CoprocView) → n < plan.settings.hosts → (a ≡ Coproc n → ⊥) → IsCoprocAt plan h n c → IsCoprocAt plan (e ∷ h) n c
+  still_seals n c l other is = record {
+    host = is.host;
+    sealing = sealing_lasts plan h e sound r c (omega (arith, l, is.host)) (not_by (Coproc c.host) (λ same. other (same ∙ ap Coproc is.host))) is.sealing;
+  }
+
   still_passes : (n : ℕ) (v : HoverView) → n < plan.settings.gateways → (a ≡ Gateway n → ⊥) → IsHoverAt plan h n v → IsHoverAt plan (e ∷ h) n v
   still_passes n v l other is = record {
     gateway = is.gateway;
@@ -90,6 +97,10 @@ module _ (old new : BookView) (a : Actor) (adds : Adds old new a) (sound' : IsSo
   workers_last ws other all =
       over (λ p g. AreWorkers p g ws)
       (mapped _ (IsWorkerAt plan (e ∷ h)) (plan.settings.hosts * plan.settings.workers) ws all (λ n w l is. still_works n w (other w.host w.index) is))
+
+  pub coprocs_last : (cs : List CoprocView) → ((host : ℕ) → a ≡ Coproc host → ⊥) → AreCoprocs plan h cs → AreCoprocs new.plan (past new.lines) cs
+  coprocs_last cs other all =
+      over (λ p g. AreCoprocs p g cs) (mapped _ (IsCoprocAt plan (e ∷ h)) plan.settings.hosts cs all (λ n c l is. still_seals n c l (other n) is))
 
   pub hovers_last : (vs : List HoverView) → ((g : ℕ) → a ≡ Gateway g → ⊥) → AreHovers plan h vs → AreHovers new.plan (past new.lines) vs
   hovers_last vs other all =
@@ -137,6 +148,12 @@ module _ (old new : BookView) (a : Actor) (adds : Adds old new a) (sound' : IsSo
         working = here (λ p g. IsWorking p g w') now;
       })
       (λ n x l other at_n. still_works n x (λ z. other (sym at_n.place ∙ (ap (hand_place plan.settings) (sym z ∙ is) ∙ was.place))) at_n))
+
+  pub coproc_changed : (cs : List CoprocView) (i : ℕ) (c : CoprocView) → a ≡ Coproc i → c.host ≡ i → IsSealing new.plan (past new.lines) c → AreCoprocs plan h cs → AreCoprocs new.plan (past new.lines) (set cs i c)
+  coproc_changed cs i c is host now all =
+      over (λ p g. AreCoprocs p g (set cs i c))
+      (replaced _ (IsCoprocAt plan (e ∷ h)) plan.settings.hosts cs i c all (record { host = host; sealing = here (λ p g. IsSealing p g c) now })
+      (λ n x l other at_n. still_seals n x l (λ z. other (let both : Coproc i ≡ Coproc n = sym is ∙ z in cc)) at_n))
 
   pub hover_changed : (vs : List HoverView) (i : ℕ) (v : HoverView) → a ≡ Gateway i → v.gateway ≡ i → IsPassing new.plan (past new.lines) v → AreHovers plan h vs → AreHovers new.plan (past new.lines) (set vs i v)
   hover_changed vs i v is gateway now all =

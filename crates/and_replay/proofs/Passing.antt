@@ -29,7 +29,8 @@ use Rattle.and_agree.specs.declared.comparing.Settled.{Settled}
 use Rattle.and_agree.specs.declared.comparing.Settled.TheVariants.{Done}
 use Rattle.and_agree.specs.Agreeing.{Tells}
 use Rattle.and_hover.specs.declared.hover.InHand.{InHand}
-use Rattle.and_hover.specs.Hovers.{HasDecided, HasTaken, HoldsAsBook, HoverView, IsSettled, MaySettle, need_in, needs}
+use Rattle.and_hover.specs.Holding.{HoldsAsBook}
+use Rattle.and_hover.specs.Hovers.{HasDecided, HasTaken, HoverView, IsSettled, MaySettle, need_in, needs}
 use Rattle.and_replay.specs.Parting.{HasNothing, HoverHas, IsPassing, installed_ops}
 use Rattle.and_replay.specs.Turns.{Adds, IsNext}
 use Rattle.and_replay.proofs.Adding.{carried_over, back}
@@ -71,7 +72,7 @@ holds_as : (plan : Plan) (h : List Event) (a : Actor) (o : Option InHand) → Ho
 holds_as plan h a None has = ap is_some has
 holds_as plan h a (Some x) has = ap is_some has.0.held
 
-pub as_book : (b : BookView) (v : HoverView) → IsPassing b.plan (past b.lines) v → HoldsAsBook b v
+pub as_book : (b : BookView) (v : HoverView) → IsPassing b.plan (past b.lines) v → HoldsAsBook b (Gateway v.gateway) v.hand
 as_book b v is = holds_as b.plan (past b.lines) (Gateway v.gateway) v.hand is.hand
 
 -- ---- a packet is decided of and settled
@@ -197,6 +198,6 @@ module _ (b : BookView) (tables : List Op) (v : HoverView) (sound : IsSound b.pl
 
 -- ---- where no packet was taken there was one in hand
 
-pub took_not : (o : Option InHand) (may : Type 0) (answer : Bool) → (IsTrue answer ↔ ((o ≡ None) × may)) → answer ≡ false → may → is_some o ≡ true
+pub took_not : {A : Type 0} (o : Option A) (may : Type 0) (answer : Bool) → (IsTrue answer ↔ ((o ≡ None) × may)) → answer ≡ false → may → is_some o ≡ true
 took_not None may answer tells is can = absurd (let clash : false ≡ true = sym is ∙ tells.1 (refl, can) in cc)
 took_not (Some x) may answer tells is can = refl

@@ -4,7 +4,7 @@ use Rattle.and_policy.specs.declared.entry.Op.{Op}
 use Rattle.and_policy.specs.Caches.{empty}
 use Rattle.and_parcel.specs.Parcels.{ParcelView}
 use Rattle.and_events.specs.declared.event.Actor.{Actor}
-use Rattle.and_events.specs.declared.event.Actor.TheVariants.{Gateway}
+use Rattle.and_events.specs.declared.event.Actor.TheVariants.{Coproc, Gateway}
 use Rattle.and_events.specs.declared.event.Event.{Event}
 use Rattle.and_events.specs.declared.event.Held.{Held}
 use Rattle.and_events.specs.declared.event.Node.{Node}
@@ -20,7 +20,9 @@ use Rattle.and_tables.specs.HostViews.{HostView}
 use Rattle.and_decide.specs.Deciding.{AreRight}
 use Rattle.and_worker.specs.declared.worker.InHand.{InHand}
 use Rattle.and_worker.specs.Workers.{WorkerView, actor_of}
+use Rattle.and_hover.specs.declared.coproc.ToSeal.{ToSeal}
 use Rattle.and_hover.specs.declared.hover.InHand.{InHand as HoverHand}
+use Rattle.and_hover.specs.Coprocs.{CoprocView}
 use Rattle.and_hover.specs.Hovers.{HoverView, is_redirect}
 use Rattle.and_replay.specs.declared.parts.Parts.{Parts}
 use Rattle.and_replay.specs.Rows.{AreAt}
@@ -64,6 +66,16 @@ abbrev pub HoverHas : Plan → List Event → Actor → Option HoverHand → Typ
 HoverHas plan h a None = HasNothing plan h a
 HoverHas plan h a (Some x) = Has plan h a x.held x.parcel x.vni × (x.redirect ≡ is_redirect (carried_at (state plan h) x.held.packet).target)
 
+-- this packet is in the coprocessor's hand, with its parcel
+pub record HasToSeal (plan : Plan) (h : List Event) (a : Actor) (x : ToSeal) : Type 0 where
+  pub held : hand_at (state plan h).flow.hands (hand_place plan.settings a) ≡ Some x.held
+  pub packet : x.parcel.packet ≡ x.held.packet
+  pub parcel : IsPacket plan x.parcel
+
+abbrev pub CoprocHas : Plan → List Event → Actor → Option ToSeal → Type 0
+CoprocHas plan h a None = HasNothing plan h a
+CoprocHas plan h a (Some x) = HasToSeal plan h a x
+
 -- ---- workers
 
 -- a host's worker has in hand what the book says, has compared no more than is installed, and its cache is the definition's, and right
@@ -80,6 +92,14 @@ pub record IsWorkerAt (plan : Plan) (h : List Event) (n : ℕ) (w : WorkerView) 
   pub index : w.index < plan.settings.workers
   pub place : hand_place plan.settings (actor_of w) ≡ n
   pub working : IsWorking plan h w
+
+-- a host's coprocessor has in hand what the book says
+abbrev pub IsSealing : Plan → List Event → CoprocView → Type 0
+IsSealing plan h c = CoprocHas plan h (Coproc c.host) c.hand
+
+pub record IsCoprocAt (plan : Plan) (h : List Event) (n : ℕ) (c : CoprocView) : Type 0 where
+  pub host : c.host ≡ n
+  pub sealing : IsSealing plan h c
 
 -- a gateway's worker has in hand what the book says, and has compared no more than is installed
 pub record IsPassing (plan : Plan) (h : List Event) (v : HoverView) : Type 0 where
@@ -107,6 +127,9 @@ AreGateBatches plan h xs = AreAt (λ (n : ℕ) (x : Option (List Op)). IsBatch p
 abbrev pub AreWorkers : Plan → List Event → List WorkerView → Type 0
 AreWorkers plan h ws = AreAt (IsWorkerAt plan h) (plan.settings.hosts * plan.settings.workers) ws
 
+abbrev pub AreCoprocs : Plan → List Event → List CoprocView → Type 0
+AreCoprocs plan h cs = AreAt (IsCoprocAt plan h) plan.settings.hosts cs
+
 abbrev pub AreHovers : Plan → List Event → List HoverView → Type 0
 AreHovers plan h vs = AreAt (IsHoverAt plan h) plan.settings.gateways vs
 
@@ -117,6 +140,7 @@ pub record AreParts (plan : Plan) (h : List Event) (p : Parts) : Type 0 where
   pub host_batches : AreHostBatches plan h p.host_batches.items
   pub gate_batches : AreGateBatches plan h p.gate_batches.items
   pub workers : AreWorkers plan h p.workers.items
+  pub coprocs : AreCoprocs plan h p.coprocs.items
   pub hovers : AreHovers plan h p.hovers.items
 
 -- ---- before the first turn
@@ -142,14 +166,18 @@ FreshBatches count xs = AreAt (λ (n : ℕ) (x : Option (List Op)). x ≡ None) 
 abbrev pub FreshWorkers : Settings → ℕ → List WorkerView → Type 0
 FreshWorkers s count ws = AreAt (IsFresh s) count ws
 
+abbrev pub FreshCoprocs : ℕ → List CoprocView → Type 0
+FreshCoprocs count cs = AreAt (λ (n : ℕ) (c : CoprocView). c ≡ record { host = n; hand = None }) count cs
+
 abbrev pub FreshHovers : ℕ → List HoverView → Type 0
 FreshHovers count vs = AreAt (λ (n : ℕ) (v : HoverView). v ≡ record { gateway = n; compared = 0; hand = None }) count vs
 
--- parts before the first turn: tables of no operations, and workers that have done nothing
+-- parts before the first turn: tables of no operations, and workers and coprocessors that have done nothing
 pub record AreFresh (s : Settings) (p : Parts) : Type 0 where
   pub hosts : FreshHosts s s.hosts p.hosts.items
   pub gates : FreshGates s.gateways p.gates.items
   pub host_batches : FreshBatches s.hosts p.host_batches.items
   pub gate_batches : FreshBatches s.gateways p.gate_batches.items
   pub workers : FreshWorkers s (s.hosts * s.workers) p.workers.items
+  pub coprocs : FreshCoprocs s.hosts p.coprocs.items
   pub hovers : FreshHovers s.gateways p.hovers.items

@@ -7,13 +7,13 @@ ghost use Rattle.and_events.specs.Legal.{CanAnnounce, CanInstall};
 ghost use Rattle.and_events.specs.Places.{IsNode, installer_of};
 ghost use Rattle.and_events.specs.Run.{past};
 ghost use Rattle.and_book.specs.Views.{now, held};
-ghost use Rattle.and_replay.specs.Parting.{installed_ops, host_tables, IsBatch, IsWorking, IsPassing, AreHosts, AreGates, AreHostBatches, AreGateBatches, AreWorkers, AreHovers};
+ghost use Rattle.and_replay.specs.Parting.{installed_ops, host_tables, IsBatch, IsWorking, IsSealing, IsPassing, AreHosts, AreGates, AreHostBatches, AreGateBatches, AreWorkers, AreCoprocs, AreHovers};
 ghost use Rattle.and_replay.specs.Turns.{IsNext, Adds};
 
 use and_book::Book;
 use and_driver::{control, turn};
 use and_events::{Actor, Node, hand_place};
-use and_hover::Hover;
+use and_hover::{Coproc, Hover};
 use and_install::{apply, begin, end};
 use and_policy::{Batch, NoMemory, Tables};
 use and_routes::GatewayTables;
@@ -223,6 +223,33 @@ pub(crate) fn work_at<L: Ledger>(
     let actor = Actor::Worker { host, index };
     let place = hand_place(book.plan().settings, actor);
     work(book, &hosts[host as usize], &mut workers[place], steps);
+    book.is_run();
+}
+
+// A host's coprocessor takes a packet, or sends the one in its hand.
+fn seal(book: &mut Book, coproc: &mut Coproc)
+    requires next { IsNext book.old (actors.Coproc coproc.old.host) }
+    requires coproc { IsSealing book.old.plan (past book.old.lines) coproc.old }
+    requires room { held book.old + 2 ≤ book.old.spare }
+    ensures adds { Adds book.old book.new (actors.Coproc coproc.old.host) }
+    ensures coproc { IsSealing book.new.plan (past book.new.lines) coproc.new }
+    ensures host { coproc.new.host ≡ coproc.old.host }
+{
+    if !coproc.take(book, 0) {
+        coproc.settle(book, 0);
+    }
+}
+
+// The coprocessor of this host acts.
+pub(crate) fn seal_at(book: &mut Book, coprocs: &mut Vec<Coproc>, host: u32)
+    requires next { IsNext book.old (actors.Coproc host) }
+    requires room { held book.old + 2 ≤ book.old.spare }
+    requires coprocs { AreCoprocs book.old.plan (past book.old.lines) coprocs.old.items }
+    ensures adds { Adds book.old book.new (actors.Coproc host) }
+    ensures coprocs { AreCoprocs book.new.plan (past book.new.lines) coprocs.new.items }
+{
+    let place = host as usize;
+    seal(book, &mut coprocs[place]);
     book.is_run();
 }
 

@@ -7,7 +7,7 @@
 //! want of memory stops it before.
 //!
 //! A turn is a call of the actor's own crate: `and_install` for the installers, `and_worker` and `and_hover` for the packet workers,
-//! `and_driver` for the steps of the plan. Each node has tables of its own, which have at every decision just the operations that
+//! `and_hover` for the coprocessors too, `and_driver` for the steps of the plan. Each node has tables of its own, which have at every decision just the operations that
 //! are installed there, whatever the order of turns: what an installer announces it keeps, and the tables take it in the turn that
 //! says it is installed. `and_others` says that the turn of one actor leaves the others what they had.
 //!

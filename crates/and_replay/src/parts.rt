@@ -1,16 +1,16 @@
-//! What the actors of a run keep beside the book: the tables of the nodes, and the packet workers.
+//! What the actors of a run keep beside the book: the tables of the nodes, the packet workers, and the coprocessors.
 ghost use Rattle.std.specs.Prelude.{◌≡◌, ◌+◌, ◌*◌, ◌<◌, [], ◌∷◌, ◌++◌, IfOk, OnOk};
-ghost use Rattle.and_replay.specs.Parting.{FreshHosts, FreshGates, FreshBatches, FreshWorkers, FreshHovers, AreFresh};
+ghost use Rattle.and_replay.specs.Parting.{FreshHosts, FreshGates, FreshBatches, FreshWorkers, FreshCoprocs, FreshHovers, AreFresh};
 
 use and_events::Settings;
-use and_hover::Hover;
+use and_hover::{Coproc, Hover};
 use and_policy::{Batch, NoMemory};
 use and_routes::GatewayTables;
 use and_tables::HostTables;
 use and_worker::Worker;
 use std::alloc::Global;
 
-/// The tables of the nodes, what is announced and not yet installed there, and the packet workers.
+/// The tables of the nodes, what is announced and not yet installed there, the packet workers, and the coprocessors.
 #[derive(Drop)]
 pub struct Parts {
     /// The tables of the hosts.
@@ -23,6 +23,8 @@ pub struct Parts {
     pub gate_batches: Vec<Option<Batch>>,
     /// The workers of the hosts, host by host.
     pub workers: Vec<Worker>,
+    /// The coprocessors of the hosts.
+    pub coprocs: Vec<Coproc>,
     /// The workers of the gateways.
     pub hovers: Vec<Hover>,
 }
@@ -103,6 +105,19 @@ fn make_workers(alloc: Global, settings: Settings) -> Result<Vec<Worker>, NoMemo
     Ok(workers)
 }
 
+// The coprocessors of the hosts.
+#[tactic(auto, using(crate::proofs::Rows::pushed, crate::proofs::Rows::none_at))]
+fn make_coprocs(alloc: Global, count: u32) -> Result<Vec<Coproc>, NoMemory>
+    ensures { IfOk result (λ v. FreshCoprocs count v.items) }
+{
+    let mut coprocs = Vec::new(alloc);
+    for host in 0..count {
+        let coproc = Coproc::make(host);
+        coprocs.push(coproc).map_err(|_| NoMemory)?;
+    }
+    Ok(coprocs)
+}
+
 // The workers of the gateways.
 #[tactic(auto, using(crate::proofs::Rows::pushed, crate::proofs::Rows::none_at))]
 fn make_hovers(alloc: Global, count: u32) -> Result<Vec<Hover>, NoMemory>
@@ -117,7 +132,7 @@ fn make_hovers(alloc: Global, count: u32) -> Result<Vec<Hover>, NoMemory>
 }
 
 impl Parts {
-    /// The tables of no operations, and workers that have nothing in hand. All memory that workers ever use is taken here.
+    /// The tables of no operations, and workers and coprocessors that have nothing in hand. All memory that they ever use is taken here.
     pub(crate) fn make(alloc: Global, settings: Settings) -> Result<Parts, NoMemory>
         requires { 0 < settings.gateways }
         ensures { IfOk result (λ p. AreFresh settings p) }
@@ -127,6 +142,7 @@ impl Parts {
         let host_batches = make_batches(alloc, settings.hosts)?;
         let gate_batches = make_batches(alloc, settings.gateways)?;
         let workers = make_workers(alloc, settings)?;
+        let coprocs = make_coprocs(alloc, settings.hosts)?;
         let hovers = make_hovers(alloc, settings.gateways)?;
         Ok(Parts {
             hosts,
@@ -134,6 +150,7 @@ impl Parts {
             host_batches,
             gate_batches,
             workers,
+            coprocs,
             hovers,
         })
     }

@@ -4,14 +4,13 @@ ghost use Rattle.and_events.specs.Complete.{IsComplete};
 ghost use Rattle.and_events.specs.Ordered.{IsInPlainOrder};
 ghost use Rattle.and_events.specs.Run.{Run, past};
 ghost use Rattle.and_events.specs.Sound.{IsSound};
-ghost use Rattle.and_built.specs.Built.{IsBuilt};
 ghost use Rattle.and_laws.specs.Bound.{bound};
 ghost use Rattle.and_others.specs.Ways.{Ways};
 ghost use Rattle.and_book.specs.Views.{now, held};
 ghost use Rattle.and_replay.specs.Parting.{AreParts};
 ghost use Rattle.and_replay.specs.Turns.{IsNext, IsUnderWay, Adds};
 
-use crate::acting::{drive, install_gate, install_host, pass_at, unpin, work_at};
+use crate::acting::{drive, install_gate, install_host, pass_at, seal_at, unpin, work_at};
 use crate::first::first_enabled;
 use crate::parts::Parts;
 use and_book::Book;
@@ -66,6 +65,11 @@ fn act<L: Ledger>(
             book.is_run();
             Ok(())
         }
+        Actor::Coproc(host) => {
+            seal_at(book, &mut parts.coprocs, host);
+            book.is_run();
+            Ok(())
+        }
         Actor::Gateway(gateway) => {
             pass_at(book, &parts.gates, &mut parts.hovers, gateway);
             book.is_run();
@@ -81,7 +85,6 @@ fn act<L: Ledger>(
             book.is_run();
             Ok(())
         }
-        Actor::Coproc(_) => unreachable!(),
     }
 }
 
@@ -119,7 +122,6 @@ const EVENTS_A_PACKET: u32 = 8;
 // A book with room for the events of a run, so that its lines are seldom moved to a larger place. Where memory for that is wanting they get it as they come.
 fn open(alloc: Global, plan: Plan) -> Result<Book, NoMemory>
     requires sound { IsSound plan }
-    requires built { IsBuilt plan }
     ensures plan { IfOk result (λ b. b.plan ≡ plan) }
     ensures threads { IfOk result (λ b. b.threads ≡ 0) }
     ensures lines { IfOk result (λ b. b.lines ≡ []) }
@@ -136,7 +138,6 @@ fn run<L: Ledger>(alloc: Global, plan: Plan, blank: Blank) -> Result<Book, NoMem
     requires parts { blank.parts ≡ L.parts }
     requires some { 0 < blank.parts }
     requires sound { IsSound plan }
-    requires built { IsBuilt plan }
     ensures plan { IfOk result (λ b. b.plan ≡ plan) }
     ensures threads { IfOk result (λ b. b.threads ≡ 0) }
     ensures run { IfOk result (λ b. Run plan (past b.lines)) }
@@ -157,7 +158,6 @@ fn run<L: Ledger>(alloc: Global, plan: Plan, blank: Blank) -> Result<Book, NoMem
 /// Runs the plan to its end. Want of memory is the only error, and then nothing of the run is left.
 pub fn replay_run(alloc: Global, plan: Plan, turns: Turns) -> Result<Book, NoMemory>
     requires sound { IsSound plan }
-    requires built { IsBuilt plan }
     ensures plan { IfOk result (λ b. b.plan ≡ plan) }
     ensures threads { IfOk result (λ b. b.threads ≡ 0) }
     ensures run { IfOk result (λ b. Run plan (past b.lines)) }

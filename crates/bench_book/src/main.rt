@@ -6,11 +6,11 @@
 
 ghost use Rattle.std.specs.Prelude.{◌≤◌, length, IfOk};
 ghost use Rattle.and_planner.specs.Plans.{CanPlan};
-ghost use Rattle.and_planner.specs.Scenarios.{IsScenario, IsBuiltScenario};
+ghost use Rattle.and_planner.specs.Scenarios.{IsScenario};
 
 use and_capture::{Bytes, Capture, Frames, Taken};
 use and_events::Scenario;
-use and_planner::{is_built, plan};
+use and_planner::plan;
 use and_policy::NoMemory;
 use and_replay::{Turns, replay_run};
 use and_script::read_scenario;
@@ -72,25 +72,19 @@ fn copies(alloc: Global, count: u32) -> Result<Capture, NoMemory>
     })
 }
 
-/// The scenario, which the system can run.
+/// The scenario.
 fn scenario(alloc: Global) -> Result<Scenario, Fault>
-    ensures fits { IfOk result (λ s. IsScenario s) }
-    ensures built { IfOk result (λ s. IsBuiltScenario s) }
+    ensures { IfOk result (λ s. IsScenario s) }
 {
-    let Ok(scenario) = read_scenario(alloc, SCENARIO.as_bytes()) else {
-        return Err(Fault::Scenario);
-    };
-    if is_built(&scenario) {
-        Ok(scenario)
-    } else {
-        Err(Fault::Scenario)
+    match read_scenario(alloc, SCENARIO.as_bytes()) {
+        Ok(scenario) => Ok(scenario),
+        Err(_) => Err(Fault::Scenario),
     }
 }
 
 /// Plans the scenario and the capture, and runs the plan; says how many lines the book has.
 fn lines_of(alloc: Global, scenario: Scenario, capture: Capture) -> Result<u64, NoMemory>
-    requires can { CanPlan scenario capture }
-    requires built { IsBuiltScenario scenario }
+    requires { CanPlan scenario capture }
 {
     let plan = plan(alloc, scenario, capture)?;
     let book = replay_run(alloc, plan, Turns::Plain)?;

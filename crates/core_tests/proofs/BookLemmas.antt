@@ -1,10 +1,7 @@
 -- The tests' plan is one that a book may have.
-use Rattle.std.proofs.Common.{◌≡◌, ◌∷◌, [], refl, sym, subst, arith}
-use Rattle.std.proofs.lemmas.List.Elements.{All-nil, All-cons}
+use Rattle.std.proofs.Common.{◌≡◌, refl, sym, subst, arith}
 use Rattle.and_events.specs.declared.plan.Plan.{Plan}
-use Rattle.and_events.specs.declared.plan.Step.TheVariants as steps
 use Rattle.and_events.specs.Sound.{IsSound}
-use Rattle.and_built.specs.Built.{IsBuilt, IsBuiltStep}
 use Rattle.core_tests.specs.Small.{small_plan}
 
 sound_small : IsSound small_plan
@@ -28,6 +25,3 @@ sound_small = record {
 
 pub small_sound : (p : Plan) → p ≡ small_plan → IsSound p
 small_sound p is = subst IsSound (sym is) sound_small
-
-pub small_built : (p : Plan) → p ≡ small_plan → IsBuilt p
-small_built p is = subst IsBuilt (sym is) (record { steps = All-cons IsBuiltStep steps.Wait (steps.Finish ∷ []) tt (All-cons IsBuiltStep steps.Finish [] tt (All-nil IsBuiltStep)) })

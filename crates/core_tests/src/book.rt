@@ -45,7 +45,7 @@ fn make_plan(alloc: Global) -> Result<Plan, NoMemory>
 }
 
 // A book of that plan.
-#[tactic(auto, using(crate::proofs::BookLemmas::small_sound, crate::proofs::BookLemmas::small_built))]
+#[tactic(auto, using(crate::proofs::BookLemmas::small_sound))]
 fn make_book(alloc: Global) -> Result<Book, NoMemory>
     ensures { IfOk result (λ b. b.lines ≡ []) }
 {

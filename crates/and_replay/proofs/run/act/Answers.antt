@@ -1,20 +1,6 @@
-use Rattle.std.proofs.Common.{subst}
-use Rattle.and_events.specs.declared.event.Actor.TheVariants.{HostInstall, GateInstall, Worker, Gateway, Controller, Driver}
-use Rattle.and_events.specs.Legal.{Enabled}
-use Rattle.and_events.specs.Run.{past}
-use Rattle.and_book.specs.Views.{now}
-use Rattle.and_replay.proofs.Others.{gate_batches_last, gates_last, host_batches_last, hosts_last, hovers_last, workers_last}
-use Rattle.and_replay.proofs.Unsealed.{never_seals}
+use Rattle.and_events.specs.declared.event.Actor.TheVariants.{HostInstall, GateInstall, Worker, Coproc, Gateway, Controller, Driver}
+use Rattle.and_replay.proofs.Others.{coprocs_last, gate_batches_last, gates_last, host_batches_last, hosts_last, hovers_last, workers_last}
 use Rattle.and_replay.proofs.run.act.Goals as goal
-
-pub unreachable-requires : goal.unreachable-requires
-unreachable-requires g c =
-    let b = c.args.book.now in
-    let h = past b.lines in
-    let sound = c.is_run.ensures.sound in
-    let built = c.is_run.ensures.built in
-    let run = c.is_run.ensures.run in
-    never_seals b.plan h _ sound built run (subst (Enabled b.plan (now b)) c.in-Coproc.is c.requires.next.enabled)
 
 pub returns-in_ok-install_host-in-HostInstall-clause-parts : goal.returns-in_ok-install_host-in-HostInstall-clause-parts
 returns-in_ok-install_host-in-HostInstall-clause-parts g c =
@@ -32,6 +18,7 @@ returns-in_ok-install_host-in-HostInstall-clause-parts g c =
       host_batches = did.batches;
       gate_batches = gate_batches_last b new a did.adds sound run p.gate_batches.items (λ n e. cc) was.gate_batches;
       workers = workers_last b new a did.adds sound run p.workers.items (λ n m e. cc) was.workers;
+      coprocs = coprocs_last b new a did.adds sound run p.coprocs.items (λ n e. cc) was.coprocs;
       hovers = hovers_last b new a did.adds sound run p.hovers.items (λ n e. cc) was.hovers;
     }
 
@@ -51,6 +38,7 @@ returns-in_ok-install_gate-in-GateInstall-clause-parts g c =
       host_batches = host_batches_last b new a did.adds sound run p.host_batches.items (λ n e. cc) was.host_batches;
       gate_batches = did.batches;
       workers = workers_last b new a did.adds sound run p.workers.items (λ n m e. cc) was.workers;
+      coprocs = coprocs_last b new a did.adds sound run p.coprocs.items (λ n e. cc) was.coprocs;
       hovers = hovers_last b new a did.adds sound run p.hovers.items (λ n e. cc) was.hovers;
     }
 
@@ -70,6 +58,27 @@ returns-in-Worker-clause-parts g c =
       host_batches = host_batches_last b new a did.adds sound run p.host_batches.items (λ n e. cc) was.host_batches;
       gate_batches = gate_batches_last b new a did.adds sound run p.gate_batches.items (λ n e. cc) was.gate_batches;
       workers = did.workers;
+      coprocs = coprocs_last b new a did.adds sound run p.coprocs.items (λ n e. cc) was.coprocs;
+      hovers = hovers_last b new a did.adds sound run p.hovers.items (λ n e. cc) was.hovers;
+    }
+
+pub returns-in-Coproc-clause-parts : goal.returns-in-Coproc-clause-parts
+returns-in-Coproc-clause-parts g c =
+    let b = c.args.book.now in
+    let p = c.args.parts.now in
+    let was = c.requires.parts in
+    let new = c.seal_at.new.book in
+    let did = c.seal_at.ensures in
+    let a = Coproc c.in-Coproc.host in
+    let sound = c.is_run-in-Coproc.ensures.sound in
+    let run = c.is_run-in-Coproc.ensures.run in
+    record {
+      hosts = hosts_last b new a did.adds sound run p.hosts.items (λ n e. cc) was.hosts;
+      gates = gates_last b new a did.adds sound run p.gates.items (λ n e. cc) was.gates;
+      host_batches = host_batches_last b new a did.adds sound run p.host_batches.items (λ n e. cc) was.host_batches;
+      gate_batches = gate_batches_last b new a did.adds sound run p.gate_batches.items (λ n e. cc) was.gate_batches;
+      workers = workers_last b new a did.adds sound run p.workers.items (λ n m e. cc) was.workers;
+      coprocs = did.coprocs;
       hovers = hovers_last b new a did.adds sound run p.hovers.items (λ n e. cc) was.hovers;
     }
 
@@ -89,6 +98,7 @@ returns-in-Gateway-clause-parts g c =
       host_batches = host_batches_last b new a did.adds sound run p.host_batches.items (λ n e. cc) was.host_batches;
       gate_batches = gate_batches_last b new a did.adds sound run p.gate_batches.items (λ n e. cc) was.gate_batches;
       workers = workers_last b new a did.adds sound run p.workers.items (λ n m e. cc) was.workers;
+      coprocs = coprocs_last b new a did.adds sound run p.coprocs.items (λ n e. cc) was.coprocs;
       hovers = did.hovers;
     }
 
@@ -107,6 +117,7 @@ returns-in_ok-drive-in-Driver-clause-parts g c =
       host_batches = host_batches_last b new Driver did.adds sound run p.host_batches.items (λ n e. cc) was.host_batches;
       gate_batches = gate_batches_last b new Driver did.adds sound run p.gate_batches.items (λ n e. cc) was.gate_batches;
       workers = workers_last b new Driver did.adds sound run p.workers.items (λ n m e. cc) was.workers;
+      coprocs = coprocs_last b new Driver did.adds sound run p.coprocs.items (λ n e. cc) was.coprocs;
       hovers = hovers_last b new Driver did.adds sound run p.hovers.items (λ n e. cc) was.hovers;
     }
 
@@ -125,5 +136,6 @@ returns-in_ok-unpin-in-Controller-clause-parts g c =
       host_batches = host_batches_last b new Controller did.adds sound run p.host_batches.items (λ n e. cc) was.host_batches;
       gate_batches = gate_batches_last b new Controller did.adds sound run p.gate_batches.items (λ n e. cc) was.gate_batches;
       workers = workers_last b new Controller did.adds sound run p.workers.items (λ n m e. cc) was.workers;
+      coprocs = coprocs_last b new Controller did.adds sound run p.coprocs.items (λ n e. cc) was.coprocs;
       hovers = hovers_last b new Controller did.adds sound run p.hovers.items (λ n e. cc) was.hovers;
     }

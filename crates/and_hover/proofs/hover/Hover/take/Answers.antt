@@ -2,10 +2,10 @@ use Rattle.std.proofs.Common.{◌∙◌, ap, subst, sym, Some, None}
 use Rattle.and_events.specs.declared.event.Actor.TheVariants.{Gateway}
 use Rattle.and_events.specs.declared.event.Carried.{Carried}
 use Rattle.and_book.specs.Views.{MayTake, now}
-use Rattle.and_book.proofs.Next.{may_take}
-use Rattle.and_agree.proofs.After.{both_empty}
-use Rattle.and_hover.specs.Hovers.{HasTaken, HoldsAsBook, HoverView, is_redirect}
+use Rattle.and_hover.specs.Holding.{HoldsAsBook}
+use Rattle.and_hover.specs.Hovers.{HasTaken, HoverView, is_redirect}
 use Rattle.and_hover.specs.Inside.{view_of}
+use Rattle.and_hover.proofs.Holding.{ready}
 use Rattle.and_hover.proofs.Passing.{taken, taken_in_plan, taken_readable}
 use Rattle.and_hover.proofs.hover.Hover.take.Goals as goal
 
@@ -14,8 +14,8 @@ carried-carried-requires c =
     let b = c.args.book.now in
     let h = c.self.inside in
     let able = c.can_take.ensures.0 c.if-not-can_take.false in
-    let holds = subst (HoldsAsBook b) (sym c.self.view_is) c.requires.hands in
-    let may : MayTake b.plan (now b) (Gateway h.gateway) = may_take b.plan (now b) (Gateway h.gateway) tt (both_empty _ h.hand holds able.0) able.1 in
+    let holds = subst (λ (w : HoverView). HoldsAsBook b (Gateway w.gateway) w.hand) (sym c.self.view_is) c.requires.hands in
+    let may : MayTake b.plan (now b) (Gateway h.gateway) = ready b (Gateway h.gateway) h.hand tt holds able.0 able.1 in
     taken_in_plan b c.take-parcel.new.self h.gateway c.args.seat c.take-parcel.result.0 c.take-parcel.result.1 may c.take-parcel.ensures.line c.take-parcel.ensures.held
     c.is_run.ensures.sound c.is_run.ensures.run
 
@@ -24,8 +24,8 @@ invariant_of-self c =
     let b = c.args.book.now in
     let h = c.self.inside in
     let able = c.can_take.ensures.0 c.if-not-can_take.false in
-    let holds = subst (HoldsAsBook b) (sym c.self.view_is) c.requires.hands in
-    let may : MayTake b.plan (now b) (Gateway h.gateway) = may_take b.plan (now b) (Gateway h.gateway) tt (both_empty _ h.hand holds able.0) able.1 in
+    let holds = subst (λ (w : HoverView). HoldsAsBook b (Gateway w.gateway) w.hand) (sym c.self.view_is) c.requires.hands in
+    let may : MayTake b.plan (now b) (Gateway h.gateway) = ready b (Gateway h.gateway) h.hand tt holds able.0 able.1 in
     taken_readable b c.take-parcel.new.self h.gateway c.args.seat c.take-parcel.result.0 c.take-parcel.result.1 may c.take-parcel.ensures.line c.take-parcel.ensures.held
     c.is_run.ensures.sound c.is_run.ensures.run c.take-parcel.ensures.parcel
 
@@ -34,8 +34,8 @@ returns-clause-taken c = λ e.
     let b = c.args.book.now in
     let h = c.self.inside in
     let able = c.can_take.ensures.0 c.if-not-can_take.false in
-    let holds = subst (HoldsAsBook b) (sym c.self.view_is) c.requires.hands in
-    let may : MayTake b.plan (now b) (Gateway h.gateway) = may_take b.plan (now b) (Gateway h.gateway) tt (both_empty _ h.hand holds able.0) able.1 in
+    let holds = subst (λ (w : HoverView). HoldsAsBook b (Gateway w.gateway) w.hand) (sym c.self.view_is) c.requires.hands in
+    let may : MayTake b.plan (now b) (Gateway h.gateway) = ready b (Gateway h.gateway) h.hand tt holds able.0 able.1 in
     let held = c.take-parcel.result.0 in
     let parcel = c.take-parcel.result.1 in
     let net = ap (λ (x : Carried). x.net) c.carried-carried.ensures in

@@ -1,5 +1,5 @@
 -- What the two files tell decides the answer, where no read failed: but for memory and writes.
-use Rattle.std.proofs.Common.{◌≡◌, ◌≤◌, ◌<◌, ℕ, List, length, true, Some, Result, Ok, Err, IfErr, subst, sym, refl, arith, ◌⊎◌, inl, inr}
+use Rattle.std.proofs.Common.{◌≡◌, ◌≤◌, ◌<◌, ℕ, List, length, true, Some, Result, Ok, Err, IfErr, subst, refl, arith, ◌⊎◌, inl, inr}
 use Rattle.and_outside.specs.Causes.{Rose}
 use Rattle.and_outside.specs.Disk.{Disk}
 use Rattle.and_script.specs.Answers.{IsText}
@@ -44,7 +44,7 @@ not_too_long n limit old new name t told within quiet long =
 
 scenario_taken : (names : Named) (old : Disk) (fault : ScenarioFault) → TellsScenario names old → NoScenarioAt old names.scenario fault → ⊥
 scenario_taken names old fault tells at =
-    not_refused tells.text tells.scenario fault tells.is_text tells.built (subst (RefusedAs fault) (at.held tells.text tells.told) at.refused)
+    not_refused tells.text tells.scenario fault tells.is_text (subst (RefusedAs fault) (at.held tells.text tells.told) at.refused)
 
 capture_taken : (names : Named) (old : Disk) (fault : CaptureFault) → TellsCapture names old → NoCaptureAt old names.capture fault → ⊥
 capture_taken names old fault tells at =
@@ -95,7 +95,7 @@ completes names old new before after (Err fault) can (inr a) = done_late names o
 
 no_run : {X : Type 0} (names : Named) (old : Disk) → TellsNoScenario names old → {scenario : _} → ScenarioAt old names.scenario scenario → X
 no_run names old tells at =
-    absurd (not_refused tells.text _ tells.fault (subst (λ bytes. IsText bytes _) (at.held tells.text tells.told) at.text) at.built tells.refused)
+    absurd (not_refused tells.text _ tells.fault (subst (λ bytes. IsText bytes _) (at.held tells.text tells.told) at.text) tells.refused)
 
 no_run_of : {X : Type 0} (names : Named) (old : Disk) → TellsNoCapture names old → {capture : _} → CaptureAt old names.capture capture → X
 no_run_of names old tells at =

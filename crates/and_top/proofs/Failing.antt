@@ -1,5 +1,5 @@
 -- Reads that fail, refusals, and what a fault of the second read tells of the whole call.
-use Rattle.std.proofs.Common.{◌≡◌, ◌≢◌, ◌≤◌, ◌∙◌, ℕ, List, length, Some, Err, true, refl, sym, subst, arith, inl, inr, ◌⊎◌}
+use Rattle.std.proofs.Common.{◌≡◌, ◌≢◌, ◌≤◌, ◌∙◌, ℕ, List, length, Some, Err, true, refl, arith, inl, inr, ◌⊎◌}
 use Rattle.and_capture.specs.declared.capture.Capture.{Capture}
 use Rattle.and_capture.specs.declared.fault.CaptureFault.{CaptureFault}
 use Rattle.and_capture.specs.declared.fault.CaptureFault.TheVariants as capture_faults
@@ -8,12 +8,13 @@ use Rattle.and_outside.specs.Causes.{Rose, RoseBy, TellsLength, raised}
 use Rattle.and_outside.specs.Disk.{Disk, counts_of}
 use Rattle.and_outside.specs.declared.answer.ReadAnswer.{ReadAnswer}
 use Rattle.and_outside.specs.declared.answer.ReadAnswer.TheVariants as reads
+use Rattle.and_script.specs.Answers.{TellsOf}
 use Rattle.and_script.specs.declared.fault.ScenarioFault.{ScenarioFault}
 use Rattle.and_script.specs.declared.fault.ScenarioFault.TheVariants as scenario_faults
 use Rattle.and_top.specs.declared.answers.Fault.{Fault}
 use Rattle.and_top.specs.declared.answers.Fault.TheVariants as faults
 use Rattle.and_top.specs.declared.answers.Which.TheVariants as which
-use Rattle.and_top.specs.Inputs.{max_scenario_len, max_capture_len, CaptureAt, NoScenarioAt, NoCaptureAt, RefusedOr, ScenarioFails, CaptureFails, fault_of_read, fault_of_scenario, fault_of_capture}
+use Rattle.and_top.specs.Inputs.{max_scenario_len, max_capture_len, CaptureAt, NoCaptureAt, ScenarioFails, CaptureFails, fault_of_read, fault_of_scenario, fault_of_capture}
 use Rattle.and_top.specs.Outside.{Calls, Stays, Holds, ReadFailed, WasTooLong}
 
 -- ---- how many calls were made
@@ -70,10 +71,9 @@ capture_unread old new name reads.NoMemory r = tt
 
 -- ---- what was read and is refused
 
-pub scenario_refused : (old new : Disk) (name bytes : List ℕ) (fault : ScenarioFault) → Holds old name bytes → length bytes ≤ max_scenario_len → RefusedOr fault bytes
+pub scenario_refused : (old new : Disk) (name bytes : List ℕ) (fault : ScenarioFault) → Holds old name bytes → length bytes ≤ max_scenario_len → TellsOf bytes fault
     → ScenarioFails 1 old new name (fault_of_scenario fault)
 scenario_refused old new name bytes scenario_faults.NoMemory held within r = tt
-scenario_refused old new name bytes scenario_faults.NotBuilt held within r = record { bytes = bytes; held = held; within = within; refused = r }
 scenario_refused old new name bytes scenario_faults.NotJson held within r = record { bytes = bytes; held = held; within = within; refused = r }
 scenario_refused old new name bytes (scenario_faults.Field path) held within r = record { bytes = bytes; held = held; within = within; refused = r }
 scenario_refused old new name bytes (scenario_faults.Unknown path) held within r = record { bytes = bytes; held = held; within = within; refused = r }

@@ -25,7 +25,6 @@ use Rattle.and_trace.proofs.Runs.{runs_have_spellings}
 use Rattle.and_top.specs.declared.texts.Texts.{Texts}
 use Rattle.and_outside.specs.Disk.{Disk}
 use Rattle.and_planner.proofs.Planned.{planned_is_sound}
-use Rattle.and_planner.proofs.Building.{planned_is_built}
 use Rattle.and_top.specs.declared.answers.Which.TheVariants as which
 use Rattle.and_top.specs.declared.answers.Fault.{Fault}
 use Rattle.and_top.specs.declared.answers.Fault.TheVariants as faults
@@ -143,7 +142,6 @@ answers names old mid new before after scenario capture texts result stays two a
       scenario_at = at_scenario;
       capture_at = at_capture;
       sound = planned_is_sound scenario capture can.is can.few_frames;
-      built = planned_is_built scenario capture at_scenario.built;
       history = are.history;
       replays = are.replays;
     } in

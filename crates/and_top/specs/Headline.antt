@@ -11,7 +11,6 @@ use Rattle.and_events.specs.Ordered.{IsInPlainOrder}
 use Rattle.and_events.specs.Planned.{planned}
 use Rattle.and_events.specs.Run.{Run}
 use Rattle.and_events.specs.Sound.{IsSound}
-use Rattle.and_built.specs.Built.{IsBuilt}
 use Rattle.and_laws.specs.Fates.{HasOneFate, IsAccounted}
 use Rattle.and_laws.specs.LivePorts.{HasRunningPorts}
 use Rattle.and_laws.specs.Offloads.{HasRightOffloads}
@@ -47,14 +46,13 @@ pub record IsReplay (plan : Plan) (h : List Event) : Type 0 where
   pub ways : Ways plan h
   pub only : (other : List Event) → Run plan other → IsComplete plan other → IsInPlainOrder plan other → Ways plan other → other ≡ h
 
--- both files as they were when the call began, where they are told; what they plan is sound and what the program runs so far, and it was run
+-- both files as they were when the call began, where they are told; what they plan is sound, and it was run
 pub record Ran (names : Named) (files : Disk) : Type 0 where
   pub scenario : Scenario
   pub capture : Capture
   pub scenario_at : ScenarioAt files names.scenario scenario
   pub capture_at : CaptureAt files names.capture capture
   pub sound : IsSound (planned scenario capture)
-  pub built : IsBuilt (planned scenario capture)
   pub history : List Event
   pub replays : IsReplay (planned scenario capture) history
 

@@ -8,7 +8,6 @@ use Rattle.and_events.specs.declared.plan.Scenario.{Scenario}
 use Rattle.and_outside.specs.declared.answer.ReadAnswer.{ReadAnswer}
 use Rattle.and_outside.specs.declared.answer.ReadAnswer.TheVariants as reads
 use Rattle.and_outside.specs.Disk.{Disk}
-use Rattle.and_planner.specs.Scenarios.{IsBuiltScenario}
 use Rattle.and_script.specs.Answers.{IsText, TellsOf}
 use Rattle.and_script.specs.declared.fault.ScenarioFault.{ScenarioFault}
 use Rattle.and_script.specs.declared.fault.ScenarioFault.TheVariants as scenario_faults
@@ -43,28 +42,22 @@ fault_of_capture fault = faults.Capture fault
 
 -- ---- the contents
 
--- the bytes are refused for this fault: they are no scenario, and it is the first check that fails; or they are one that the system cannot run yet
+-- the bytes are no scenario, and refused for this fault, the first check that fails
 abbrev pub RefusedAs : ScenarioFault → List ℕ → Type 0
-RefusedAs scenario_faults.NotBuilt bytes = (scenario : Scenario) × IsText bytes scenario × (IsBuiltScenario scenario → ⊥)
 RefusedAs scenario_faults.NoMemory bytes = ⊥
 RefusedAs fault bytes = TellsOf bytes fault
-
-abbrev pub RefusedOr : ScenarioFault → List ℕ → Type 0
-RefusedOr scenario_faults.NoMemory bytes = Unit {0}
-RefusedOr fault bytes = RefusedAs fault bytes
 
 -- the bytes are a capture refused for this fault, the first check that fails
 abbrev pub CaptureRefusedAs : CaptureFault → List ℕ → Type 0
 CaptureRefusedAs capture_faults.NoMemory bytes = ⊥
 CaptureRefusedAs fault bytes = reading bytes ≡ Err fault
 
--- some bytes, the content of this name where that is told, are this scenario, which the system can run
+-- some bytes, the content of this name where that is told, are this scenario
 pub record ScenarioAt (files : Disk) (name : List ℕ) (scenario : Scenario) : Type 0 where
   pub bytes : List ℕ
   pub held : Holds files name bytes
   pub within : length bytes ≤ max_scenario_len
   pub text : IsText bytes scenario
-  pub built : IsBuiltScenario scenario
 
 -- some bytes, the content of this name where that is told, are refused for this fault
 pub record NoScenarioAt (files : Disk) (name : List ℕ) (fault : ScenarioFault) : Type 0 where

@@ -11,7 +11,6 @@ use Rattle.and_capture.specs.declared.fault.CaptureFault.{CaptureFault}
 use Rattle.and_capture.specs.declared.fault.CaptureFault.TheVariants as capture_faults
 use Rattle.and_capture.specs.Reading.{reading}
 use Rattle.and_outside.specs.Disk.{Disk}
-use Rattle.and_planner.specs.Scenarios.{IsBuiltScenario}
 use Rattle.and_script.specs.Answers.{IsText}
 use Rattle.and_script.specs.declared.fault.ScenarioFault.{ScenarioFault}
 use Rattle.and_script.specs.declared.fault.ScenarioFault.TheVariants as scenario_faults
@@ -54,7 +53,6 @@ scenario_line (scenario_faults.Field path) = codes "scenario: Field " ++ (path +
 scenario_line (scenario_faults.Unknown path) = codes "scenario: Unknown " ++ (path ++ 10 ∷ [])
 scenario_line (scenario_faults.Range path) = codes "scenario: Range " ++ (path ++ 10 ∷ [])
 scenario_line (scenario_faults.Limit path) = codes "scenario: Limit " ++ (path ++ 10 ∷ [])
-scenario_line scenario_faults.NotBuilt = codes "scenario: NotBuilt" ++ 10 ∷ []
 scenario_line scenario_faults.NoMemory = codes "no memory" ++ 10 ∷ []
 
 -- the line of a refused capture: the check that failed first, and, of a record, its place in decimal digits. The last is never answered
@@ -98,14 +96,13 @@ pub record Replayed (names : Named) (old new : Disk) (before after err_before er
   pub status_is : status ≡ status_of answer
   pub says : Says names answer err_before err_after
 
--- The scenario is told, within its limit, accepted, and such as the system can run
+-- The scenario is told, within its limit, and accepted
 pub record TellsScenario (names : Named) (old : Disk) : Type 0 where
   pub text : List ℕ
   pub told : old.content names.scenario ≡ Some text
   pub within : length text ≤ max_scenario_len
   pub scenario : Scenario
   pub is_text : IsText text scenario
-  pub built : IsBuiltScenario scenario
 
 -- The capture is told, within its limit, and accepted
 pub record TellsCapture (names : Named) (old : Disk) : Type 0 where
@@ -131,7 +128,7 @@ pub record TellsNoCapture (names : Named) (old : Disk) : Type 0 where
   pub fault : CaptureFault
   pub refused : CaptureRefusedAs fault file
 
--- Both files are told, within their limits and accepted, the system can run the scenario, and no read can have failed.
+-- Both files are told, within their limits and accepted, and no read can have failed.
 pub record CanComplete (names : Named) (old new : Disk) : Type 0 where
   pub scenario : TellsScenario names old
   pub capture : TellsCapture names old

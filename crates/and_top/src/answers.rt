@@ -24,7 +24,7 @@ pub enum Which {
 /// Why a job was not done: the first failure in the order of the work.
 #[derive(Drop)]
 pub enum Fault {
-    /// The scenario was refused, or is one that the system cannot run yet. Want of memory is never answered so.
+    /// The scenario was refused. Want of memory is never answered so.
     Scenario(ScenarioFault),
     /// The capture was refused. Want of memory is never answered so.
     Capture(CaptureFault),

@@ -118,7 +118,6 @@ fn line_of_scenario<'a>(fault: &'a ScenarioFault) -> Line<'a>
         ScenarioFault::Unknown { path } => path_line("scenario: Unknown ", path),
         ScenarioFault::Range { path } => path_line("scenario: Range ", path),
         ScenarioFault::Limit { path } => path_line("scenario: Limit ", path),
-        ScenarioFault::NotBuilt => plain_line("scenario: NotBuilt"),
         ScenarioFault::NoMemory => plain_line("no memory"),
     }
 }

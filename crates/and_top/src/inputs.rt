@@ -1,16 +1,14 @@
 //! Reading the two files of a job.
 ghost use Rattle.std.specs.Prelude.{◌≡◌, IfOk, IfErr};
-ghost use Rattle.and_script.specs.Answers.{IsText};
-ghost use Rattle.and_planner.specs.Scenarios.{IsBuiltScenario};
 ghost use Rattle.and_top.specs.Outside.{Calls, Stays};
-ghost use Rattle.and_top.specs.Inputs.{fault_of_read, fault_of_scenario, fault_of_capture, RefusedOr, ScenarioAt, CaptureAt, ScenarioFails, CaptureFails};
+ghost use Rattle.and_top.specs.Inputs.{fault_of_read, fault_of_scenario, fault_of_capture, ScenarioAt, CaptureAt, ScenarioFails, CaptureFails};
 
 use crate::answers::{Fault, Which};
 use crate::{MAX_CAPTURE_LEN, MAX_SCENARIO_LEN};
 use and_capture::{Capture, CaptureFault, read_capture};
 use and_events::Scenario;
 use and_outside::{Files, ReadAnswer};
-use and_script::{ScenarioFault, is_built, read_scenario};
+use and_script::{ScenarioFault, read_scenario};
 use std::alloc::Global;
 
 /// The fault of a read that did not succeed.
@@ -44,20 +42,6 @@ fn capture_fault(fault: CaptureFault) -> Fault
     }
 }
 
-/// The scenario of the bytes, where the system can run it.
-fn built_scenario(alloc: Global, bytes: &[u8]) -> Result<Scenario, ScenarioFault>
-    ensures text { IfOk result (λ s. IsText bytes.now s) }
-    ensures built { IfOk result (λ s. IsBuiltScenario s) }
-    ensures refused { IfErr result (λ e. RefusedOr e bytes.now) }
-{
-    let scenario = read_scenario(alloc, bytes)?;
-    if is_built(&scenario) {
-        Ok(scenario)
-    } else {
-        Err(ScenarioFault::NotBuilt)
-    }
-}
-
 /// The scenario of the file of this name.
 pub(crate) fn scenario_in<F: Files>(
     alloc: Global,
@@ -73,7 +57,7 @@ pub(crate) fn scenario_in<F: Files>(
         Ok(bytes) => bytes,
         Err(answer) => return Err(read_fault(Which::Scenario, answer)),
     };
-    match built_scenario(alloc, &bytes) {
+    match read_scenario(alloc, &bytes) {
         Ok(scenario) => Ok(scenario),
         Err(fault) => Err(scenario_fault(fault)),
     }

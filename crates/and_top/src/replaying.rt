@@ -119,9 +119,9 @@ fn work<F: Files, O: Sink>(
 /// than what was installed when it was taken: that is what [`Ok`] and the faults of the writes say, of the contents of files and of
 /// the sink where those are told.
 ///
-/// Where both files are told, within their limits and accepted, the system can run the scenario, and no read can have failed, it
-/// answers `Ok`, or that memory ran out or that a write failed. Where the scenario is refused it answers that, by the first check
-/// that fails, or that memory ran out; and so, after it, the capture.
+/// Where both files are told, within their limits and accepted, and no read can have failed, it answers `Ok`, or that memory ran
+/// out or that a write failed. Where the scenario is refused it answers that, by the first check that fails, or that memory ran out;
+/// and so, after it, the capture.
 pub fn replay<F: Files, O: Sink>(
     alloc: Global,
     job: &Job,

@@ -1,7 +1,6 @@
 //! What a replay writes: its trace, its two captures and its report.
 ghost use Rattle.std.specs.Prelude.{IfOk};
 ghost use Rattle.and_planner.specs.Plans.{CanPlan};
-ghost use Rattle.and_planner.specs.Scenarios.{IsBuiltScenario};
 ghost use Rattle.and_top.specs.Texts.{AreTexts};
 
 use and_capture::Capture;
@@ -27,15 +26,14 @@ pub(crate) struct Texts {
     pub(crate) report: Vec<u8>,
 }
 
-/// Runs the plan of a scenario, which the system can run, and a capture to its end, and writes what happened.
+/// Runs the plan of a scenario and a capture to its end, and writes what happened.
 pub(crate) fn texts_of(
     alloc: Global,
     scenario: Scenario,
     capture: Capture,
     turns: Turns,
 ) -> Result<Texts, NoMemory>
-    requires can { CanPlan scenario capture }
-    requires built { IsBuiltScenario scenario }
+    requires { CanPlan scenario capture }
     ensures { IfOk result (λ texts. AreTexts scenario capture texts) }
 {
     let plan = plan(alloc, scenario, capture)?;

@@ -13,5 +13,5 @@ returns-in-Err-clause-refused g c = rw c.read_fault.ensures (scenario_unread _ _
 
 pub returns-clause-refused : goal.returns-clause-refused
 returns-clause-refused g c =
-    rw c.scenario_fault.ensures (scenario_refused _ _ c.args.name.now c.in-Ok.bytes.items c.in-Err-built_scenario.fault c.in-Ok.ensures.told c.in-Ok.ensures.within
-    (rw (← c.deref.ensures.value) c.in-Err-built_scenario.ensures.refused))
+    rw c.scenario_fault.ensures (scenario_refused _ _ c.args.name.now c.in-Ok.bytes.items c.in-Err-read_scenario.fault c.in-Ok.ensures.told c.in-Ok.ensures.within
+    (rw (← c.deref.ensures.value) c.in-Err-read_scenario.ensures.refused))

@@ -7,8 +7,8 @@ use Rattle.and_top.proofs.PlansLemmas.{can_plan}
 use Rattle.and_top.proofs.Storing.{leaves_later}
 use Rattle.and_top.proofs.replaying.work.Goals as goal
 
-pub texts_of-requires-clause-can : goal.texts_of-requires-clause-can
-texts_of-requires-clause-can g c =
+pub texts_of-requires : goal.texts_of-requires
+texts_of-requires g c =
     can_plan c.in_ok-scenario.ensures.scenario.bytes c.in_ok-scenario.ensures.capture.bytes c.in_ok-scenario.scenario c.in_ok-scenario.capture
     c.in_ok-scenario.ensures.scenario.text c.in_ok-scenario.ensures.capture.reads
 

@@ -12,6 +12,7 @@ import shutil
 import struct
 import sys
 
+import captures
 import model
 
 DATA = os.path.join(os.path.dirname(os.path.abspath(__file__)), "..", "crates", "rows", "data")
@@ -34,6 +35,7 @@ SEND_2, SEND_3 = '{"do":"send","frames":2}', '{"do":"send","frames":3}'
 NO_RULE_1 = '{"do":"del_rule","net":7,"number":1}'
 NO_UDP = '{"do":"add_rule","net":7,"number":2,"priority":10,"side":"egress","action":"deny","protocol":"udp"}'
 SEALED = '{"do":"add_rule","net":7,"number":2,"priority":50,"side":"egress","action":"allow","sealed":true}'
+SEALED_TCP = SEALED.replace('"sealed"', '"protocol":"tcp","sealed"')
 PEER_ITEMS = [
     '{"do":"add_net","net":8}',
     '{"do":"add_vm","vm":"c","net":8,"mac":"02:00:00:00:00:03","ip":"10.0.1.3","host":0}',
@@ -73,10 +75,14 @@ def free(node, what):
     return f'{{"do":"free","node":"{node}","what":"{what}"}}'
 
 
-def frame(source_port=4096, destination="10.0.0.2", port=80, source_mac=1):
-    """The first frame with other ports, another destination or another source address."""
+# Two packets that host 0 takes together, since its forwarding was held before.
+HELD_2 = [hold("h0", "forward"), SEND_2, free("h0", "forward")]
+
+
+def frame(source_port=4096, destination="10.0.0.2", port=80, source_mac=1, protocol=6):
+    """The first frame with other ports, another destination, another source address or another protocol."""
     address = bytes(int(part) for part in destination.split("."))
-    return F1[:6] + (0x020000000000 + source_mac).to_bytes(6, "big") + F1[12:30] + address + struct.pack(">HH", source_port, port) + F1[38:]
+    return F1[:6] + (0x020000000000 + source_mac).to_bytes(6, "big") + F1[12:23] + bytes([protocol]) + F1[24:30] + address + struct.pack(">HH", source_port, port) + F1[38:]
 
 
 def capture(*frames, order="<", magic=0xA1B2C3D4):
@@ -231,6 +237,46 @@ def sealings():
     row("sealed-by-the-coprocessor", "The egress rule seals, so the coprocessor sends, with an outer UDP checksum at each send.", base(SEALED, SEND),
         capture(F2), trace="egress h0.w0 0 5 slow allow rule 2 sealed hover g0 queued\ntake h0.c seal 0\nsealed h0.c 0 queued")
     row("sealed-with-a-zero-sum", "A computed checksum of 0 is sent as ffff.", base(SEALED, SEND), capture(F3))
+    row("sealed-beside-plain", "What no rule seals goes on from its worker, with no checksum, and what is sealed waits for the coprocessor.",
+        base(SEALED_TCP, *HELD_2), capture(F2, frame(protocol=17)),
+        trace="egress h0.w0 0 5 slow allow rule 2 sealed hover g0 queued\negress h0.w0 1 5 slow allow implied plain hover g0 queued\n"
+        "take h0.c seal 0\nsealed h0.c 0 queued\nroute g0.w 1 5 implied send h1 7 queued\nroute g0.w 0 5 implied send h1 7 queued",
+        report="delivered 1\ndropped 1\nsends 4")
+    row("sealed-in-order", "Two packets wait for the coprocessor, and the first one goes first; the second is decided by the flow cache.",
+        base(SEALED, *HELD_2), capture(F2, F2),
+        trace="egress h0.w0 0 5 slow allow rule 2 sealed hover g0 queued\negress h0.w0 1 5 fast allow rule 2 sealed hover g0 queued\n"
+        "take h0.c seal 0\nsealed h0.c 0 queued\ntake h0.c seal 1\nsealed h0.c 1 queued", report="delivered 2\nsends 4\nfast 2\nslow 2")
+    row("full-seal-queue", "The second packet is to be sealed, and finds the queue of the coprocessor full.",
+        base(SEALED, *HELD_2, settings='"seal_queue":1,'), capture(F2, F2),
+        trace="egress h0.w0 0 5 slow allow rule 2 sealed hover g0 queued\negress h0.w0 1 5 fast allow rule 2 sealed hover g0 full\n"
+        "take h0.c seal 0\nsealed h0.c 0 queued", report="delivered 1\nlost queue 1\nsends 2\nhover 2")
+    row("sealed-for-a-full-wire-queue", "The coprocessor sends the second packet too, and finds the gateway's queue full.",
+        base(SEALED, *HELD_2, settings='"wire_queue":1,'), capture(F2, F2), trace="sealed h0.c 0 queued\ntake h0.c seal 1\nsealed h0.c 1 full",
+        report="delivered 1\nlost queue 1\nsends 2")
+    row("sealed-with-one-hop", "Sealing takes no hop; the send takes the only one.", base(SEALED, SEND, settings='"hop_limit":1,'), capture(F2),
+        trace="sealed h0.c 0 queued\nroute g0.w 0 5 implied hops", report="lost hops 1\nsends 1")
+    low = '"threshold":110,"life":5,'
+    row("sealed-by-an-order", "An order leads the third packet straight to its host, by the coprocessor.", base(SEALED, SEND_2, TICK, SEND_1, settings=low),
+        capture(F2, F2, F2), trace="egress h0.w0 2 7 slow allow rule 2 sealed offload h1 7 queued\ntake h0.c seal 2\nsealed h0.c 2 queued\ntake h1.w0 wire 2",
+        report="offload 1\nsends 5\ndelivered 3")
+    row("sealed-over-a-hairpin", "The old host sends the sealed packet on to the new one: each send has its checksum.",
+        base(SEALED, SEND_2, TICK, hold("h0", "install"), move("b", 2), resume("b"), SEND_1, hosts=3, settings=low), capture(F2, F2, F2),
+        trace="egress h0.w0 2 7 slow allow rule 2 sealed offload h1 7 queued\ntake h0.c seal 2\nsealed h0.c 2 queued\n"
+        "ingress h1.w0 2 7 slow vm 1 hairpin h2 queued\ningress h2.w0 2 7 slow vm 1 running rule 1 deliver", report="hairpin 1\nsends 6\ndelivered 3")
+    row("sealed-and-redirected", "The port is gone: the sealed packet goes back to a gateway and on, and each send has its checksum.",
+        base(SEALED, SEND_2, TICK, hold("h1", "forward"), SEND_1, move("b", 0), resume("b"), free("h1", "forward"), settings=low), capture(F2, F2, F2),
+        trace="sealed h0.c 2 queued\ningress h1.w0 2 7 slow vm 1 absent g0 queued\nredirect g0.w 2 7 send h0 queued\n"
+        "ingress h0.w0 2 8 slow vm 1 running rule 1 deliver", report="redirect 1\nsends 7\ndelivered 3")
+    row("sealed-at-a-held-host", "A host whose forwarding is held takes nothing, so its coprocessor seals once it is freed; a wait does not wait for it.",
+        base(SEALED, hold("h0", "forward"), SEND_2, WAIT, free("h0", "forward")), capture(F2, F2),
+        trace="hold 6\ninject 7 0 queued\ninject 8 1 queued\nwait 9\nfree 10\ntake h0.w0 out 0\ntake h0.c seal 0\nsealed h0.c 0 queued\n"
+        "take h0.c seal 1\nsealed h0.c 1 queued", report="delivered 2")
+    beginning("held-with-packets-to-seal", "Forwarding is held while the coprocessor has a packet in hand and another one waits: what it has in hand goes on.",
+              base(SEALED, SEND_2, hold("h0", "forward"), free("h0", "forward")), capture(F2, F2),
+              "append 5\n" + "".join(f"announce {node} 5\ninstalled {node} 5\n" for node in ("h0", "h1", "g0")) +
+              "inject 6 0 queued\ninject 7 1 queued\ntake h0.w0 out 0\negress h0.w0 0 5 slow allow rule 2 sealed hover g0 queued\ntake h0.c seal 0\n"
+              "take h0.w0 out 1\negress h0.w0 1 5 fast allow rule 2 sealed hover g0 queued\nhold 8\nsealed h0.c 0 queued\nfree 9\ntake h0.c seal 1\n"
+              "sealed h0.c 1 queued\n")
 
 
 def balanced_and_parked():
@@ -264,6 +310,8 @@ def refusals():
             ("sixty-five-hosts", "One host too many.", '{"hosts":65,"gateways":1,"script":[]}', "Range /hosts"),
             ("priority-too-large", "A priority past its range, in the item's path.", base().replace('"priority":100', '"priority":65536'),
              "Range /script/3/priority"),
+            ("seal-of-what-is-denied", "A rule seals what it allows to leave, and nothing else.",
+             base(SEALED.replace("allow", "deny")), "Range /script/5/sealed"),
             ("items-past-the-limit", "A script of 65,537 items; the limit comes before the items.",
              '{"hosts":1,"gateways":1,"script":[' + ",".join(["0"] * 65537) + "]}", "Limit /script")]:
         row(name, shows, scenario, one, said=f"scenario: {said}")
@@ -285,18 +333,11 @@ def refusals():
     row("scenario-that-is-not-there", "The scenario is read first.", None, one, said="read failed: scenario.json")
 
 
-# Items that the system cannot run so far are refused alike, after all that the grammar refuses. These rows go with the refusal.
-NOT_BUILT = "scenario: NotBuilt"
-
-
-def not_built():
-    """What cannot be run yet, and what is refused before it."""
-    row("seal-that-is-not-built", "The system seals no packet yet.", base(SEALED), capture(), said=NOT_BUILT)
+def holds():
+    """What is held at the end."""
     row("holds-freed-at-the-end", "What is still held at the end is freed before it, installs of a node before its forwarding, hosts before gateways.",
         '{"hosts":1,"gateways":2,"script":[%s]}' % ",".join([hold("g1", "install"), hold("h0", "forward"), NET_7, hold("h0", "install"), WAIT]), capture(),
         trace="hold 3\nwait 4\nfree 5\nfree 6\nfree 7\nannounce g1 1\ninstalled g1 1\nfinish 8")
-    row("grammar-before-what-is-built", "An item that is out of range, after one that cannot be run yet.",
-        '{"hosts":1,"gateways":1,"script":[%s,{"do":"add_net","net":0}]}' % SEALED, capture(), said="scenario: Range /script/1/net")
 
 
 def faults():
@@ -395,7 +436,7 @@ def composed(it):
             files.update({name: data for name, data in run_texts(it).items() if name in it["left"]})
         if it["failing"] and it["failing"].startswith("err"):
             del files["error"]
-        if status in (2, 3) and it["said"] != NOT_BUILT:
+        if status in (2, 3):
             padded = [files[n].ljust(it["lengths"].get(n, 0), b"\0") for n in ("scenario.json", "capture.pcap")]
             try:
                 model.replay(*padded)
@@ -442,6 +483,9 @@ def known_bytes(folders):
     outer = folders["sealed-by-the-coprocessor"]["out.underlay.pcap"]
     assert [outer[40:76].hex(), outer[147:183].hex()] == heads
     assert folders["sealed-with-a-zero-sum"]["out.underlay.pcap"][66:68].hex() == "ffff"
+    for folder in folders.values():
+        if "out.trace" in folder and "out.underlay.pcap" in folder:
+            captures.seals_as_told(folder["out.trace"].decode(), folder["out.underlay.pcap"])
     other = folders["big-endian-nanoseconds"]
     assert (other["out.trace"], other["report"]) == (whole["out.trace"], whole["report"])
     assert other["out.delivered.pcap"][:4].hex() == "4d3cb2a1"
@@ -456,7 +500,7 @@ def known_bytes(folders):
 
 def all_files():
     """Every file of the folder, by its path."""
-    for part in (whole_runs, offloads, migrations, sealings, balanced_and_parked, refusals, not_built, faults, words, a_day):
+    for part in (whole_runs, offloads, migrations, sealings, balanced_and_parked, refusals, holds, faults, words, a_day):
         part()
     folders = {it["name"]: composed(it) for it in ROWS}
     known_bytes(folders)

@@ -1,6 +1,7 @@
 #!/usr/bin/env bash
 # 300 generated scenarios (scripts/generate.py, seeded) give the report, the trace and both captures that the model composes for them, and the plain program
-# judges each trace legal, complete, in the plain order, just and fresh. They go to a folder beside the program that is no part of the repository.
+# judges each trace legal, complete, in the plain order, just and fresh. Sealed packets are among them: some are sent, some find a full queue before or behind the
+# coprocessor. The files go to a folder beside the program that is no part of the repository.
 set -u
 cd "$(dirname "$0")/.." || exit 1
 program=crates/andromeda/out/andromeda
@@ -10,6 +11,9 @@ command -v python3 >/dev/null || { echo "skipped: python3 is not installed"; exi
 work=crates/andromeda/out/generated
 traces=()
 python3 scripts/generate.py "$work" 300 1 || { echo "failed: no scenarios were written"; exit 1; }
+for line in '^sealed .* queued$' '^sealed .* full$' '^egress .* sealed .* full$'; do
+  grep -q "$line" "$work"/[0-9]*.trace || { echo "failed: no packet of the scenarios has a line $line"; exit 1; }
+done
 for number in $(seq 0 299); do
   "$program" replay "$work/$number.json" "$work/$number.pcap" "$work/got" >"$work/got.report" || { echo "failed: scenario $number"; exit 1; }
   diff "$work/$number.report" "$work/got.report" || { echo "failed: the report of scenario $number differs"; exit 1; }

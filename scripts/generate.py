@@ -3,8 +3,8 @@
 and N.trace for N from 0 on.
 
 Use: generate.py FOLDER COUNT SEED
-The scenarios have all kinds of items that the program takes so far: networks, VMs, rules, routes, what deletes these, ticks, blackouts, resumes, sends,
-waits, holds and frees, on up to seven hosts and eight gateways, with settings of all kinds. About half of the packets are of the flow of an earlier one.
+The scenarios have all kinds of items: networks, VMs, rules, of which some seal, routes, what deletes these, ticks, blackouts, resumes, sends, waits, holds and
+frees, on up to seven hosts and eight gateways, with settings of all kinds. About half of the packets are of the flow of an earlier one.
 """
 
 import os
@@ -17,7 +17,7 @@ import model
 
 def settings_of(draw):
     """Settings that are named, each now and then: small queues and hop limits, so that packets are lost to them."""
-    ranges = {"workers": (1, 4), "hop_limit": (1, 3), "out_queue": (1, 4), "wire_queue": (1, 3), "seal_queue": (1, 4096), "threshold": (1, 150), "life": (1, 4)}
+    ranges = {"workers": (1, 4), "hop_limit": (1, 3), "out_queue": (1, 4), "wire_queue": (1, 3), "seal_queue": (1, 3), "threshold": (1, 150), "life": (1, 4)}
     return "".join(f'"{name}":{draw.randint(*ranges[name])},' for name in ranges if draw.random() < (0.8 if name == "threshold" else 0.2))
 
 
@@ -35,11 +35,16 @@ def scenario_of(draw):
         protocol = draw.choice(["", ',"protocol":"tcp"', ',"protocol":"udp"', ',"protocol":1'])
         ports = draw.choice(["", f',"destination_ports":[{low},{low + draw.randrange(0, 400)}]'])
         source = draw.choice(["", f',"source":"{draw.choice(vms)[3]}/{draw.choice([16, 24, 31, 32])}"'])
+        action = draw.choice(["allow", "allow", "deny"])
+        sealed = draw.choice(["", ',"sealed":true', ',"sealed":true', ',"sealed":false']) if (side, action) == ("egress", "allow") else ""
         items.append(f'{{"do":"add_rule","net":{draw.choice(nets)},"number":{number},"priority":{draw.randrange(0, 4)},"side":"{side}",'
-                     f'"action":"{draw.choice(["allow", "allow", "deny"])}"{protocol}{source}{ports}}}')
+                     f'"action":"{action}"{protocol}{source}{ports}{sealed}}}')
     for net in nets:
         if draw.random() < 0.5:
             items.append(f'{{"do":"add_rule","net":{net},"number":20,"priority":{draw.randrange(0, 6)},"side":"ingress","action":"allow"}}')
+        # Now and then all that leaves is sealed, where no other rule decides.
+        if draw.random() < 0.2:
+            items.append(f'{{"do":"add_rule","net":{net},"number":21,"priority":{draw.randrange(2, 6)},"side":"egress","action":"allow","sealed":true}}')
     for number in range(1, draw.randrange(1, 6)):
         target = draw.choice(['"local"', '"drop"', f'"peer","peer":{draw.choice(nets)}', f'"peer","peer":{draw.choice(nets)}'])
         prefix = f"{draw.choice(vms)[3]}/{draw.choice([0, 8, 16, 24, 32])}"
@@ -120,19 +125,20 @@ def capture_of(draw, vms):
 def main():
     folder, count, seed = sys.argv[1], int(sys.argv[2]), int(sys.argv[3])
     os.makedirs(folder, exist_ok=True)
-    packets = 0
+    packets, seals = 0, 0
     for number in range(count):
         draw = random.Random(seed * 1_000_003 + number)
         scenario, vms = scenario_of(draw)
         capture = capture_of(draw, vms)
         run = model.replay(scenario.encode(), capture)
         packets += len(run.plan.packets)
+        seals += sum(line.startswith("sealed ") for line in run.lines)
         texts = {"json": scenario.encode(), "pcap": capture, "report": model.report(run).encode(), "trace": model.trace(run).encode(),
                  "delivered.pcap": model.delivered_capture(run), "underlay.pcap": model.underlay_capture(run)}
         for kind, data in texts.items():
             with open(os.path.join(folder, f"{number}.{kind}"), "wb") as file:
                 file.write(data)
-    print(f"{count} scenarios with {packets} packets")
+    print(f"{count} scenarios with {packets} packets, {seals} of them sealed")
     return 0
 
 

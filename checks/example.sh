@@ -20,7 +20,8 @@ example=examples/three-hosts
 same "$example/report.txt" "$work/three.report" "the report of $example differs"
 same "$example/trace.txt" "$work/three.trace" "the trace of $example differs"
 
-for run in "lag scenario three-hosts/traffic" "offload scenario offload/traffic" "migration scenario migration/traffic" "migration lag migration/traffic"; do
+for run in "lag scenario three-hosts/traffic" "offload scenario offload/traffic" "migration scenario migration/traffic" "migration lag migration/traffic" \
+  "sealed scenario sealed/traffic"; do
   read -r name scenario capture <<<"$run"
   example=examples/$name traffic=examples/$capture.pcap out=$work/$name-$scenario
   written=$example/$([ "$scenario" = scenario ] || echo "$scenario-")

@@ -46,6 +46,27 @@ from VM client (10.1.0.30) of network 7
   3. h2.w0 decides at 12 (slow path): denied by rule 6 of network 7 (egress deny tcp port 22, priority 50): dropped
 END
 
+# Of examples/sealed: a packet on its way over the coprocessor, two that are lost before and behind it.
+sealed=examples/sealed
+ways=("$sealed/scenario.json" "$sealed/traffic.pcap")
+told() { tools/story "$1" "$2" "${ways[@]}" | grep -E ' (decides|computes) ' | sed 's/^ *[0-9]*\. //'; }
+told "$sealed/trace.txt" 10 | head -2 >"$work/story" || failed "story of a sealed packet"
+told "$sealed/trace.txt" 66 >>"$work/story" || failed "story of a packet at a full seal queue"
+sed -e '/^sealed h1.c 10 queued$/{ s/queued/full/; q; }' "$sealed/trace.txt" >"$work/other"
+told "$work/other" 10 | sed -n 2p >>"$work/story"
+diff - "$work/story" <<'END' || failed "the stories of sealed packets differ"
+h1.w0 decides at 10 (slow path): allowed by rule 5 of network 7 (egress allow tcp port 5432 sealed, priority 50); to be sealed, and then to the hoverboard g0 with VNI 7
+h1.c computes the outer UDP checksum and sends it on to g0
+h1.w0 decides at 12 (fast path): allowed by rule 5 of network 7 (egress allow tcp port 5432 sealed, priority 50); to be sealed, and then by an offloaded flow straight to h2 with VNI 7, but the queue of the coprocessor is full: the packet is lost
+h1.c computes the outer UDP checksum and sends it on to g0, whose queue is full: the packet is lost
+END
+tools/fates "$sealed/trace.txt" --counts | grep '^[0-9]* *lost' >"$work/lost"
+[ "$(cat "$work/lost")" = "3        lost       full seal queue" ] || failed "the packets lost at the full seal queue"
+tools/fates "$work/other" --counts | grep -q '^1 *lost *full wire queue$' || failed "the packet lost behind the coprocessor"
+# The coprocessor sends, so the one arrow to the gateway begins at the line of `sealed`.
+tools/ladder "$sealed/trace.txt" "${ways[@]}" --packet 10 >"$work/ladder.svg" || failed "ladder of a sealed packet"
+[ "$(grep -c 'marker-end' "$work/ladder.svg")" = 2 ] || failed "the arrows of a sealed packet"
+
 for which in "--packet 2" "--vm web"; do
   # shellcheck disable=SC2086
   tools/ladder "${of[@]}" $which >"$work/ladder.svg" || failed "ladder $which"

@@ -2,7 +2,8 @@
 """Writes scenarios and captures for `run.sh`: 8 hosts, 4 networks of 15 rules each (60 in all), 40 VMs, and captures of the frames that are asked for, of 100
 bytes each; the same with 64 hosts, with 4 and with 4,000 rules in networks that no frame is of, and with 4 and with 256 rules in each network of the frames;
 with a tick every 1,000 frames, at which no flow reaches the threshold, and at which all do; with 1,000 migrations over 64 hosts, each VM in a blackout for
-50 of 100 frames; and 10,000 frames of 1,400 bytes.
+50 of 100 frames; with a rule in each network that lets all frames leave, which seals and which does not; and 10,000 and 20,000 frames of 1,400 bytes (a capture
+has room for 23,696 of these).
 
 Usage: make_input.py FOLDER FRAMES..
 """
@@ -31,13 +32,20 @@ def moves(hosts):
     return items
 
 
-def scenario(hosts=HOSTS, rules=RULES, elsewhere=0, threshold=None, moving=False):
-    """Each of the networks of the VMs has so many rules, and 20 others, which have no VM, have so many together. With a threshold, 1,000 frames are sent a tick."""
+def leaves(net, sealed):
+    """A rule that is tried before the others for what leaves, and takes all of it."""
+    return {"do": "add_rule", "net": net, "number": 1000, "priority": 0, "side": "egress", "action": "allow", "sealed": sealed}
+
+
+def scenario(hosts=HOSTS, rules=RULES, elsewhere=0, threshold=None, moving=False, sealed=None):
+    """Each of the networks of the VMs has so many rules, and 20 others, which have no VM, have so many together. With a threshold, 1,000 frames are sent a tick. Where
+    it is said whether frames are sealed, all of them leave, by one rule more in each network."""
     script = [{"do": "add_net", "net": 1 + n} for n in range(NETS + 20)]
     for v in range(VMS):
         script.append({"do": "add_vm", "vm": f"v{v}", "net": 1 + v % NETS, "mac": mac(v), "ip": f"10.0.0.{v + 1}", "host": v % hosts})
     script += [rule(1 + n, r) for n in range(NETS) for r in range(rules)]
     script += [rule(1 + NETS + r % 20, r // 20) for r in range(elsewhere)]
+    script += [leaves(1 + n, sealed) for n in range(NETS)] if sealed is not None else []
     if threshold:
         ticks = [{"do": "send", "frames": 1000}, {"do": "tick"}] * 100
         return {"hosts": hosts, "gateways": 1, "threshold": threshold, "script": script + [{"do": "wait"}] + ticks}
@@ -46,7 +54,7 @@ def scenario(hosts=HOSTS, rules=RULES, elsewhere=0, threshold=None, moving=False
 
 SCENARIOS = {"scenario": {}, "64-hosts": {"hosts": 64}, "4-elsewhere": {"elsewhere": 4}, "4000-elsewhere": {"elsewhere": 4000},
              "4-rules": {"rules": 4}, "256-rules": {"rules": 256}, "ticks": {"threshold": 1_000_000}, "offloads": {"threshold": 500},
-             "moves": {"hosts": 64, "moving": True}}
+             "moves": {"hosts": 64, "moving": True}, "unsealed": {"sealed": False}, "sealed": {"sealed": True}}
 
 
 def mac(v):
@@ -81,6 +89,7 @@ def main():
     for count in map(int, sys.argv[2:]):
         capture(os.path.join(folder, f"{count}.pcap"), count, 100)
     capture(os.path.join(folder, "long.pcap"), 10000, 1400)
+    capture(os.path.join(folder, "longer.pcap"), 20000, 1400)
 
 
 main()

@@ -1,6 +1,6 @@
 #!/usr/bin/env bash
 # The reports of the examples, and the traces of all but the first, are those that were written down by hand from tshark's list and the scenario's
-# rules (README.md of each), and the captures of all but the first two are those that the model composes. What the program writes goes to a folder beside it that is no part of the
+# rules (README.md of each), but those of sealed, which the model composes as it does the captures of all but the first two. What the program writes goes to a folder beside it that is no part of the
 # repository.
 set -u
 cd "$(dirname "$0")/.." || exit 1
@@ -34,4 +34,4 @@ for run in "lag scenario three-hosts/traffic" "offload scenario offload/traffic"
     cmp "$work/model.$kind.pcap" "$out.$kind.pcap" || { echo "failed: the $kind capture of $example differs"; exit 1; }
   done
 done
-echo "passed: the examples' reports, traces and captures are the ones written by hand and composed"
+echo "passed: the examples' reports, traces and captures are the ones written by hand or composed"
